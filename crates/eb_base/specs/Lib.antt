@@ -1,0 +1,4 @@
+pub mod Width
+pub mod Field
+pub mod Lanes
+pub mod Name

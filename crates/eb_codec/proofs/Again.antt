@@ -1,0 +1,145 @@
+-- One call, where an item is spelled or less than one is there.
+use Rattle.std.proofs.Common.{◌≡◌, ◌↔◌, ◌⊎◌, ℕ, zero, suc, ◌+◌, ◌-◌, ◌<◌, ◌≤◌, List, [], ◌∷◌, ◌++◌, length, take, drop, map, Option, Some, None, Result, Ok, Err, refl, sym, ap, subst, add-zero, ◌∙◌, arith, inl, inr}
+use Rattle.std.specs.Prelude.{MatchOption, MatchResult}
+use Rattle.std.proofs.lemmas.Bool.{cases_lt}
+use Rattle.std.proofs.lemmas.List.{append-nil, append_assoc, length-append, length-take, take-append-drop, take-append-le, take_at, take_all}
+use Rattle.eb_base.specs.declared.width.Widths.{Widths}
+use Rattle.eb_codec.specs.declared.item.Header.{Header}
+use Rattle.eb_codec.specs.declared.item.Why.{Why}
+use Rattle.eb_codec.specs.declared.event.Malformed.{Malformed}
+use Rattle.eb_codec.specs.declared.event.Step.{Step}
+use Rattle.eb_codec.specs.declared.event.Item.{Item}
+use Rattle.eb_codec.specs.declared.event.Item.TheVariants as item
+use Rattle.eb_codec.specs.Stream.{StreamItem, Probed, Headed, Recorded, Spells, IsPartial, IsBadOctet}
+use Rattle.eb_codec.specs.Decoding.{Progress, told, Gives, TakesAll, Takes, IsPlaced, Refuses, Feeds, GivesSpelled, NotYetExactly}
+use Rattle.eb_codec.proofs.ItemLemmas.{one_spelling}
+use Rattle.eb_codec.proofs.RoomLemmas.{take-append-ge}
+use Rattle.eb_codec.proofs.StreamLemmas.{no_whole}
+use Rattle.eb_codec.proofs.Runs.{at_none, at_some, answer_ok, answer_err}
+
+-- no octet of a spelling, nor one behind it, is the item's first bad one
+not_bad : (sets : Widths) (header : Option Header) (x : StreamItem) (o octets rest : List ℕ) (p : ℕ) (why : Why) → Spells sets header x octets → o ≡ octets ++ rest → IsBadOctet sets header o p why → ⊥
+not_bad sets header x o octets rest p why s e bad =
+    elim (cases_lt p (length octets)) [
+      | inl lt ↦
+          let front : take (p + 1) o ≡ take (p + 1) octets = ap (take (p + 1)) e ∙ take-append-le (p + 1) octets rest (omega arith) in
+          let again : octets ≡ take (p + 1) o ++ drop (p + 1) octets = sym (take-append-drop (p + 1) octets) ∙ ap (λ (l : List ℕ). l ++ drop (p + 1) octets) (sym front) in
+          bad.ends x (drop (p + 1) octets) (subst (Spells sets header x) again s)
+      | inr ge ↦
+          let front : take p o ≡ octets ++ take (p - length octets) rest = ap (take p) e ∙ take-append-ge octets rest p ge in
+          no_whole sets header x (take p o) octets (take (p - length octets) rest) bad.before s front
+    ]
+
+-- what an item that was given is
+gives_entry : (old new : Progress) (octets : List ℕ) (i : Item) → Gives old octets i new → ((i ≡ item.NotYet) × IsPartial old.sets old.header octets) ⊎ ((y : StreamItem) × (i ≡ told y) × Spells old.sets old.header y octets)
+gives_entry old new octets item.NotYet g = inl (refl, g.0)
+gives_entry old new octets (item.Probe p) g = inr (Probed p, refl, g.0)
+gives_entry old new octets (item.Header h) g = inr (Headed h, refl, g.0)
+gives_entry old new octets (item.Record d) g = inr (Recorded g.0, ap (λ z. item.Record z) (sym g.1), g.2)
+
+taken_fits : (i : Item) (taken len : ℕ) → TakesAll i taken len → taken ≤ len
+taken_fits item.NotYet taken len t = omega arith
+taken_fits (item.Probe p) taken len t = t
+taken_fits (item.Header h) taken len t = t
+taken_fits (item.Record d) taken len t = t
+
+given_is : (old new : Progress) (piece octets rest : List ℕ) (step : Step) (x : StreamItem) → Takes old piece step new → Spells old.sets old.header x octets → old.pending ++ piece ≡ octets ++ rest
+    → (step.item ≡ told x) × (old.pending ++ take step.taken piece ≡ octets)
+given_is old new piece octets rest step x t s e =
+    let o : List ℕ = old.pending ++ take step.taken piece in
+    let split : o ++ drop step.taken piece ≡ octets ++ rest = append_assoc old.pending (take step.taken piece) (drop step.taken piece) ∙ ap (λ (l : List ℕ). old.pending ++ l) (take-append-drop step.taken piece) ∙ e in
+    elim (gives_entry old new o step.item t.gives) [
+      | inl n ↦
+          let all : step.taken ≡ length piece = subst (λ (i : Item). TakesAll i step.taken (length piece)) n.0 t.taken in
+          let same : o ≡ octets ++ rest = ap (λ (l : List ℕ). old.pending ++ l) (take_all step.taken piece (omega arith)) ∙ e in
+          absurd (no_whole old.sets old.header x o octets rest n.1 s same)
+      | inr y ↦
+          let one = one_spelling old.sets old.header y.0 x o octets (drop step.taken piece) rest y.2 s split in
+          (y.1 ∙ ap told one.0, one.1)
+    ]
+
+same_step : (a b : Step) → a.taken ≡ b.taken → a.item ≡ b.item → a ≡ b
+same_step a b p q = λ i. record { taken = p i; item = q i }
+
+-- of less than an item no octet is bad
+bad_partial : (sets : Widths) (header : Option Header) (o : List ℕ) (p : ℕ) (why : Why) → IsPartial sets header o → IsBadOctet sets header o p why → ⊥
+bad_partial sets header o p why part bad =
+    let again : o ++ part.1 ∷ part.2 ≡ take (p + 1) o ++ (drop (p + 1) o ++ part.1 ∷ part.2) = ap (λ (l : List ℕ). l ++ part.1 ∷ part.2) (sym (take-append-drop (p + 1) o)) ∙ append_assoc (take (p + 1) o) (drop (p + 1) o) (part.1 ∷ part.2) in
+    bad.ends part.0 (drop (p + 1) o ++ part.1 ∷ part.2) (subst (Spells sets header part.0) again part.3)
+
+partial_step : (old new : Progress) (piece : List ℕ) (step : Step) → Takes old piece step new → IsPartial old.sets old.header (old.pending ++ piece) → step ≡ record { taken = length piece; item = item.NotYet }
+partial_step old new piece step t p =
+    let o : List ℕ = old.pending ++ take step.taken piece in
+    elim (gives_entry old new o step.item t.gives) [
+      | inl n ↦
+          let all : step.taken ≡ length piece = subst (λ (i : Item). TakesAll i step.taken (length piece)) n.0 t.taken in
+          same_step step (record { taken = length piece; item = item.NotYet }) all n.0
+      | inr y ↦
+          let split : old.pending ++ piece ≡ o ++ drop step.taken piece = ap (λ (l : List ℕ). old.pending ++ l) (sym (take-append-drop step.taken piece)) ∙ sym (append_assoc old.pending (take step.taken piece) (drop step.taken piece)) in
+          absurd (no_whole old.sets old.header y.0 (old.pending ++ piece) o (drop step.taken piece) p y.2 split)
+    ]
+
+pub gives_spelled : GivesSpelled
+gives_spelled old new piece octets rest (Err fault) x n f s e lt =
+    let g : Refuses old piece fault new = at_none old.fault (Refuses old piece fault new) (λ m. (answer_err fault ≡ Err m) × (new ≡ old)) n f in
+    absurd (not_bad old.sets old.header x (old.pending ++ piece) octets rest g.place.0 fault.why s e g.place.2)
+gives_spelled old new piece octets rest (Ok step) x n f s e lt =
+    let t : Takes old piece step new = at_none old.fault (Takes old piece step new) (λ m. (answer_ok step ≡ Err m) × (new ≡ old)) n f in
+    let i = given_is old new piece octets rest step x t s e in
+    let fits = taken_fits step.item step.taken (length piece) t.taken in
+    let taken : step.taken ≡ length octets - length old.pending = omega (arith, ap length i.1, length-append old.pending (take step.taken piece), length-take step.taken piece) in
+    let same : step ≡ record { taken = length octets - length old.pending; item = told x } = same_step step (record { taken = length octets - length old.pending; item = told x }) taken i.0 in
+    (ap answer_ok same, subst (λ (o : List ℕ). Gives old o (told x) new) i.1 (subst (λ (j : Item). Gives old (old.pending ++ take step.taken piece) j new) i.0 t.gives))
+
+pub not_yet_exactly : NotYetExactly
+not_yet_exactly old new piece (Err fault) n f =
+    let g : Refuses old piece fault new = at_none old.fault (Refuses old piece fault new) (λ m. (answer_err fault ≡ Err m) × (new ≡ old)) n f in
+    (λ e. absurd cc, λ p. absurd (bad_partial old.sets old.header (old.pending ++ piece) g.place.0 fault.why p g.place.2))
+not_yet_exactly old new piece (Ok step) n f =
+    let t : Takes old piece step new = at_none old.fault (Takes old piece step new) (λ m. (answer_ok step ≡ Err m) × (new ≡ old)) n f in (
+      λ e.
+          let same : step ≡ record { taken = length piece; item = item.NotYet } = cc in
+          let g : Gives old (old.pending ++ take (length piece) piece) item.NotYet new = subst (λ (s : Step). Gives old (old.pending ++ take s.taken piece) s.item new) same t.gives in
+          subst (IsPartial old.sets old.header) (ap (λ (l : List ℕ). old.pending ++ l) (take_all (length piece) piece (omega arith))) g.0,
+      λ p. ap answer_ok (partial_step old new piece step t p),
+    )
+
+given_place : (old new : Progress) (octets : List ℕ) (i : Item) → Gives old octets i new → new.start + length new.pending ≡ old.start + length octets
+given_place old new octets item.NotYet g = let a = ap (λ (z : Progress). z.start + length z.pending) g.1 in a
+given_place old new octets (item.Probe p) g = let a = ap (λ (z : Progress). z.start + length z.pending) g.1 in a ∙ add-zero (old.start + length octets)
+given_place old new octets (item.Header h) g = let a = ap (λ (z : Progress). z.start + length z.pending) g.1 in a ∙ add-zero (old.start + length octets)
+given_place old new octets (item.Record d) g = let a = ap (λ (z : Progress). z.start + length z.pending) g.3 in a ∙ add-zero (old.start + length octets)
+
+cases_fault : (o : Option Malformed) → (o ≡ None) ⊎ ((m : Malformed) × (o ≡ Some m))
+cases_fault None = inl refl
+cases_fault (Some m) = inr (m, refl)
+
+ok_place : (old new : Progress) (piece : List ℕ) (step : Step) → Takes old piece step new → IsPlaced old new (length piece) step
+ok_place old new piece step t =
+    let fits = taken_fits step.item step.taken (length piece) t.taken in
+    let e = given_place old new (old.pending ++ take step.taken piece) step.item t.gives in
+    record { within = fits; place = omega (arith, e, length-append old.pending (take step.taken piece), length-take step.taken piece); moves = t.moves }
+
+-- where the decoder stands after a call
+pub places : (old new : Progress) (piece : List ℕ) (answer : Result Step Malformed) → Feeds old piece answer new → MatchResult answer (IsPlaced old new (length piece)) (λ _. new.start + length new.pending ≤ old.start + length old.pending)
+places old new piece (Ok step) f = elim (cases_fault old.fault) [
+  | inl n ↦ ok_place old new piece step (at_none old.fault (Takes old piece step new) (λ m. (answer_ok step ≡ Err m) × (new ≡ old)) n f)
+  | inr m ↦ let g = at_some old.fault (Takes old piece step new) (λ fault. (answer_ok step ≡ Err fault) × (new ≡ old)) m.0 m.1 f in let e = g.0 in absurd cc
+]
+places old new piece (Err fault) f = elim (cases_fault old.fault) [
+  | inl n ↦
+      let g : Refuses old piece fault new = at_none old.fault (Refuses old piece fault new) (λ m. (answer_err fault ≡ Err m) × (new ≡ old)) n f in
+      let e = ap (λ (z : Progress). z.start + length z.pending) g.after in
+      omega arith
+  | inr m ↦
+      let g = at_some old.fault (Refuses old piece fault new) (λ m'. (answer_err fault ≡ Err m') × (new ≡ old)) m.0 m.1 f in
+      let e = ap (λ (z : Progress). z.start + length z.pending) g.1 in
+      omega arith
+]
+
+bounded_by : (old new : Progress) (len : ℕ) (answer : Result Step Malformed) → MatchResult answer (IsPlaced old new len) (λ _. new.start + length new.pending ≤ old.start + length old.pending) → new.start + length new.pending ≤ old.start + length old.pending + len
+bounded_by old new len (Ok step) p = omega (arith, p.place, p.within)
+bounded_by old new len (Err fault) p = omega arith
+
+pub bounded : (old new : Progress) (piece : List ℕ) (answer : Result Step Malformed) → Feeds old piece answer new → new.start + length new.pending ≤ old.start + length old.pending + length piece
+bounded old new piece answer f = bounded_by old new (length piece) answer (places old new piece answer f)

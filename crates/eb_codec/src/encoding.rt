@@ -1,0 +1,182 @@
+ghost use Rattle.std.specs.Prelude.{◌≡◌, ◌<◌, ◌≤◌, ◌+◌, ◌-◌, ◌*◌, ◌^◌, ◌++◌, length, replicate, All, OnOk, OnErr, vec_len, vec_capacity};
+ghost use Rattle.eb_base.specs.Width.{octets as width_octets};
+ghost use Rattle.eb_base.specs.Field.{octets_of};
+ghost use Rattle.eb_codec.specs.Sizes.{field_octets, gap};
+ghost use Rattle.eb_codec.specs.Form.{zeroed, field, part, header_form, probe_form, record_form, FitsProbe, FitsRecord, KeepsRules};
+ghost use Rattle.eb_codec.specs.Reading.{part_octets, record_octets};
+ghost use Rattle.std.specs.List.{flat_map};
+
+use crate::item::{Header, Probe, Record};
+use crate::sizes::{field_len, record_len, trailing, unit_len};
+use crate::words::Words;
+use eb_base::{NoMemory, Width};
+
+const ZEROS: [u8; 8] = [0; 8];
+
+// Appends octets for which there is room.
+fn put(out: &mut Vec<u8>, octets: &[u8])
+    requires { vec_len out.old + length octets.now ≤ vec_capacity out.old }
+    ensures items { out.new.items ≡ out.old.items ++ octets.now }
+    ensures len { vec_len out.new ≡ vec_len out.old + length octets.now }
+    ensures capacity { vec_capacity out.old ≤ vec_capacity out.new }
+{
+    match out.extend_from_slice(octets) {
+        Ok(()) => {}
+        Err(_) => unreachable!(),
+    }
+}
+
+// Appends padding.
+fn put_zeros(out: &mut Vec<u8>, n: usize)
+    requires room { vec_len out.old + n ≤ vec_capacity out.old }
+    requires few { n ≤ 8 }
+    ensures items { out.new.items ≡ out.old.items ++ replicate n 0 }
+    ensures len { vec_len out.new ≡ vec_len out.old + n }
+    ensures capacity { vec_capacity out.old ≤ vec_capacity out.new }
+{
+    put(out, &ZEROS[..n]);
+}
+
+// Appends the octets of a number.
+#[tactic(auto, unfolding(eb_base::specs::Field::octets_of))]
+fn put_number(out: &mut Vec<u8>, width: Width, n: u64)
+    requires room { vec_len out.old + width_octets width ≤ vec_capacity out.old }
+    requires fits { n < 256 ^ width_octets width }
+    ensures items { out.new.items ≡ out.old.items ++ octets_of width n }
+    ensures len { vec_len out.new ≡ vec_len out.old + width_octets width }
+    ensures capacity { vec_capacity out.old ≤ vec_capacity out.new }
+{
+    match width {
+        Width::W8 => put(out, &(n as u8).to_be_bytes()),
+        Width::W16 => put(out, &(n as u16).to_be_bytes()),
+        Width::W32 => put(out, &(n as u32).to_be_bytes()),
+        Width::W64 => put(out, &n.to_be_bytes()),
+    }
+}
+
+// Appends a number in its field.
+fn put_field(out: &mut Vec<u8>, header: Header, width: Width, n: u64)
+    requires room { vec_len out.old + field_octets header ≤ vec_capacity out.old }
+    requires fits { n < 256 ^ width_octets width }
+    requires narrow { width_octets width ≤ field_octets header }
+    ensures items { out.new.items ≡ out.old.items ++ zeroed (field header width n) }
+    ensures len { vec_len out.new ≡ vec_len out.old + field_octets header }
+    ensures capacity { vec_capacity out.old ≤ vec_capacity out.new }
+{
+    put_zeros(out, field_len(header) - width.octets() as usize);
+    put_number(out, width, n);
+}
+
+// Appends numbers, each in a field.
+fn put_fields(out: &mut Vec<u8>, header: Header, width: Width, numbers: &Words)
+    requires room { vec_len out.old + field_octets header * length numbers.now ≤ vec_capacity out.old }
+    requires fit { All (λ v. v < 256 ^ width_octets width) numbers.now }
+    requires narrow { width_octets width ≤ field_octets header }
+    ensures items { out.new.items ≡ out.old.items ++ zeroed (flat_map (field header width) numbers.now) }
+    ensures len { vec_len out.new ≡ vec_len out.old + field_octets header * length numbers.now }
+    ensures capacity { vec_capacity out.old ≤ vec_capacity out.new }
+{
+    for i in 0..numbers.len() {
+        put_field(out, header, width, *numbers.get(i));
+    }
+}
+
+// Appends a base and its numbers, nothing where there are none.
+fn put_part(out: &mut Vec<u8>, header: Header, width: Width, base: u64, numbers: &Words)
+    requires room { vec_len out.old + part_octets header (length numbers.now) ≤ vec_capacity out.old }
+    requires base_fits { base < 256 ^ width_octets header.address }
+    requires fit { All (λ v. v < 256 ^ width_octets width) numbers.now }
+    requires narrow { width_octets width ≤ field_octets header }
+    ensures items { out.new.items ≡ out.old.items ++ zeroed (part header width base numbers.now) }
+    ensures len { vec_len out.new ≡ vec_len out.old + part_octets header (length numbers.now) }
+    ensures capacity { vec_capacity out.old ≤ vec_capacity out.new }
+{
+    if numbers.len() == 0 {
+        return;
+    }
+    put_field(out, header, header.address, base);
+    put_fields(out, header, width, numbers);
+}
+
+// Appends a record, for which there is room.
+fn put_record(out: &mut Vec<u8>, header: Header, item: &Record)
+    requires room { vec_len out.old + record_octets header item.now.head.writes item.now.head.reads ≤ vec_capacity out.old }
+    requires fits { FitsRecord header item.now }
+    ensures { out.new.items ≡ out.old.items ++ zeroed (record_form header item.now) }
+{
+    let head = item.head;
+    let unit = unit_len(header);
+    put(out, &[head.flags, head.enable, head.writes, head.reads]);
+    put_zeros(out, unit - 4);
+    put_part(out, header, header.port, item.write_base, &item.values);
+    put_part(
+        out,
+        header,
+        header.address,
+        item.return_base,
+        &item.addresses,
+    );
+    put_zeros(out, trailing(header, head.writes, head.reads));
+}
+
+/// Appends the spelling of a record.
+pub fn encode_record(header: &Header, item: &Record, out: &mut Vec<u8>) -> Result<(), NoMemory>
+    requires fits { FitsRecord header.now item.now }
+    requires legal { KeepsRules header.now item.now.head }
+    ensures ok { OnOk result (out.new.items ≡ out.old.items ++ zeroed (record_form header.now item.now)) }
+    ensures err { OnErr result (out.new.items ≡ out.old.items) }
+{
+    let len = record_len(*header, item.head.writes, item.head.reads);
+    if out.reserve(len).is_err() {
+        return Err(NoMemory);
+    }
+    put_record(out, *header, item);
+    Ok(())
+}
+
+/// Appends the spelling of a header.
+pub fn encode_header(header: &Header, out: &mut Vec<u8>) -> Result<(), NoMemory>
+    ensures ok { OnOk result (out.new.items ≡ out.old.items ++ zeroed (header_form header.now)) }
+    ensures err { OnErr result (out.new.items ≡ out.old.items) }
+{
+    let unit = unit_len(*header);
+    if out.reserve(unit).is_err() {
+        return Err(NoMemory);
+    }
+    let version = if header.no_reply { 0x14 } else { 0x10 };
+    put(
+        out,
+        &[
+            0x4e,
+            0x6f,
+            version,
+            16 * header.address.bit() + header.port.bit(),
+        ],
+    );
+    put_zeros(out, unit - 4);
+    Ok(())
+}
+
+/// Appends the spelling of a probe.
+#[tactic(auto, unfolding(eb_base::specs::Field::octets_of))]
+pub fn encode_probe(probe: &Probe, out: &mut Vec<u8>) -> Result<(), NoMemory>
+    requires { FitsProbe probe.now }
+    ensures ok { OnOk result (out.new.items ≡ out.old.items ++ zeroed (probe_form probe.now)) }
+    ensures err { OnErr result (out.new.items ≡ out.old.items) }
+{
+    if out.reserve(8).is_err() {
+        return Err(NoMemory);
+    }
+    let version = if probe.no_reply { 0x15 } else { 0x11 };
+    put(
+        out,
+        &[
+            0x4e,
+            0x6f,
+            version,
+            16 * probe.widths.addresses + probe.widths.ports,
+        ],
+    );
+    put(out, &probe.id.to_be_bytes());
+    Ok(())
+}
