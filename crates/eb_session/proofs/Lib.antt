@@ -1,1 +1,8 @@
 mod Examples
+pub mod Folds
+pub mod RamSteps
+pub mod Histories
+pub mod Words
+pub mod Fronts
+pub mod Rest
+pub mod OneAnswer

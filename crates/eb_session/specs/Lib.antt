@@ -3,3 +3,4 @@ pub mod Cycles
 pub mod Configuration
 pub mod Replies
 pub mod FirstForm
+pub mod OnRam
