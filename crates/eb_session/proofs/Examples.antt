@@ -1,12 +1,11 @@
 -- Worked captures, computed by the definitions.
-use Rattle.std.proofs.Common.{◌≡◌, ℕ, ◌+◌, ◌*◌, ◌^◌, Bool, true, false, List, [], ◌∷◌, ◌++◌, length, replicate, Option, Some, None, refl}
+use Rattle.std.proofs.Common.{◌≡◌, ℕ, true, false, List, [], ◌∷◌, ◌++◌, length, replicate, refl}
 use Rattle.eb_base.specs.declared.width.Width.{Width}
 use Rattle.eb_base.specs.declared.width.Width.TheVariants.{W8, W16, W32, W64}
 use Rattle.eb_base.specs.Field.{octets_of, number}
 use Rattle.eb_codec.specs.declared.item.Header.{Header}
 use Rattle.eb_codec.specs.declared.item.Record.{Record}
-use Rattle.eb_codec.specs.declared.item.RecordHead.{RecordHead}
-use Rattle.eb_codec.specs.Form.{zeroed, part, record_form, header_form}
+use Rattle.eb_codec.specs.Form.{zeroed, part, record_form}
 use Rattle.eb_codec.specs.Stream.{StreamItem, Headed, Recorded}
 use Rattle.wb_signals.specs.Request.{Request, placed}
 use Rattle.wb_signals.specs.Content.{Content}
@@ -14,12 +13,10 @@ use Rattle.wb_signals.specs.Wiring.{Wiring, stepped}
 use Rattle.wb_signals.specs.Bus.{bus}
 use Rattle.wb_signals.specs.History.{Entry, cycle, contents_after, after}
 use Rattle.wb_signals.specs.Ram.{ram_wiring, ram_contents}
-use Rattle.wb_signals.specs.declared.answer.Answer.{Answer}
 use Rattle.wb_signals.specs.declared.answer.Answer.TheVariants.{Ack, Err, Rty}
-use Rattle.eb_session.specs.Operations.{record_ops}
-use Rattle.eb_session.specs.Cycles.{Group, cycles, Fit, given}
+use Rattle.eb_session.specs.Cycles.{Group, cycles, given}
 use Rattle.eb_session.specs.Configuration.{config_word}
-use Rattle.eb_session.specs.Replies.{Slave, slave, replies}
+use Rattle.eb_session.specs.Replies.{slave, replies}
 use Rattle.eb_session.specs.FirstForm.{header, items_of}
 
 -- The entries of cycles that run one after another.

@@ -1,5 +1,5 @@
 -- What the decoder tells of octets that begin with a whole item, and what that says of a capture.
-use Rattle.std.proofs.Common.{◌≡◌, ◌⊎◌, ℕ, ◌+◌, ◌-◌, ◌<◌, ◌≤◌, List, [], ◌∷◌, ◌++◌, length, map, take, drop, Option, Some, None, Result, Ok, Err, refl, sym, ap, ◌∙◌, subst, arith, length-append}
+use Rattle.std.proofs.Common.{◌≡◌, ℕ, ◌-◌, ◌<◌, List, [], ◌∷◌, ◌++◌, Bool, false, IsTrue, length, map, take, drop, Option, Some, None, Result, Ok, Err, sym, ap, ◌∙◌, subst, arith, length-append}
 use Rattle.std.specs.List.{All}
 use Rattle.std.proofs.lemmas.List.{take-append-drop}
 use Rattle.eb_base.specs.declared.width.Width.TheVariants.{W32}
@@ -11,12 +11,12 @@ use Rattle.eb_codec.specs.declared.event.Item.{Item}
 use Rattle.eb_codec.specs.declared.event.Item.TheVariants as item
 use Rattle.eb_codec.specs.declared.event.Step.{Step}
 use Rattle.eb_codec.specs.declared.event.Malformed.{Malformed}
-use Rattle.eb_codec.specs.Stream.{StreamItem, Probed, Headed, Recorded, Spells, SpellsAll}
+use Rattle.eb_codec.specs.Stream.{StreamItem, Headed, Recorded, Spells, SpellsAll}
 use Rattle.eb_codec.specs.Decoding.{Progress, Feeds, fresh, told}
 use Rattle.eb_codec.proofs.ItemLemmas.{form_read, size-ge, one_spelling}
 use Rattle.eb_codec.proofs.Again.{gives_spelled}
 use Rattle.eb_session.specs.Replies.{sets_of}
-use Rattle.eb_session.specs.FirstForm.{header, IsPlain, IsCapture, IsNoCapture, items_of}
+use Rattle.eb_session.specs.FirstForm.{header, IsPlain, IsNoCapture}
 use Rattle.eb_session.proofs.Folds.{All-first, All-rest}
 use Rattle.eb_session.specs.OnRam.{IsPlainHead, StandsAt, TookHeader, BeginsWithNone}
 
@@ -26,6 +26,9 @@ same_told answer s n told is e = let same : s ≡ record { taken = n; item = tol
 
 pub not_told : (answer : Result Step Malformed) (f : Malformed) (s : Step) → answer ≡ Err f → answer ≡ Ok s → ⊥
 not_told answer f s is e = cc
+
+pub never : (b : Bool) → b ≡ false → IsTrue b → ⊥
+never b is test = cc
 
 pub some_octets : (sets : Widths) (h : Option Header) (x : StreamItem) (a : List ℕ) → Spells sets h x a → 0 < length a
 some_octets sets h x a s = let e = (form_read h x a s.form).1 in let le = size-ge h a in omega (arith, e, le)

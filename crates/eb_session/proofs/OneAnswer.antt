@@ -1,12 +1,10 @@
 -- A capture has one answer.
-use Rattle.std.proofs.Common.{◌≡◌, ℕ, ◌<◌, List, [], ◌∷◌, ◌++◌, length, map, Option, Some, None, refl, sym, ap, ◌∙◌, subst, arith, length-append}
+use Rattle.std.proofs.Common.{◌≡◌, ℕ, ◌<◌, List, [], ◌∷◌, length, map, Option, None, refl, sym, ap, ◌∙◌, subst, arith, length-append}
 use Rattle.eb_base.specs.declared.width.Width.TheVariants.{W32}
 use Rattle.eb_base.specs.declared.width.Widths.{Widths}
 use Rattle.eb_codec.specs.declared.item.Header.{Header}
-use Rattle.eb_codec.specs.Stream.{StreamItem, Spells, SpellsAll, header_after}
+use Rattle.eb_codec.specs.Stream.{StreamItem, SpellsAll, header_after}
 use Rattle.eb_codec.proofs.ItemLemmas.{one_spelling}
-use Rattle.wb_signals.specs.Content.{Content, Ram}
-use Rattle.wb_signals.specs.History.{Entry}
 use Rattle.wb_signals.specs.Ram.{ram_wiring, ram_contents}
 use Rattle.wb_signals.specs.declared.answer.Answer.{Answer}
 use Rattle.eb_session.specs.Cycles.{cycles, given, marked}

@@ -1,16 +1,15 @@
 -- The step of a bus whose one device is a RAM, for accesses of whole words.
-use Rattle.std.proofs.Common.{◌≡◌, ℕ, zero, suc, ◌+◌, ◌-◌, ◌*◌, ◌/◌, ◌%◌, ◌^◌, ◌<◌, ◌≤◌, ◌&&◌, nat_lt, nat_le, Bool, true, false, if◌then◌else◌, List, [], ◌∷◌, ◌++◌, length, take, drop, refl, sym, ap, ◌∙◌, arith, subst}
+use Rattle.std.proofs.Common.{◌≡◌, ℕ, ◌+◌, ◌-◌, ◌*◌, ◌/◌, ◌%◌, ◌^◌, ◌<◌, ◌&&◌, nat_lt, nat_le, Bool, true, false, if◌then◌else◌, List, [], ◌∷◌, ◌++◌, length, take, drop, refl, ap, ◌∙◌, arith}
 use Rattle.eb_base.specs.declared.width.Width.TheVariants.{W32}
 use Rattle.eb_base.specs.Field.{octets_of, number_at}
 use Rattle.eb_base.specs.Lanes.{selected, port_address, shift, placed_adr, placed_dat, placed_sel, word_of}
 use Rattle.wb_signals.specs.Request.{Request, placed}
-use Rattle.wb_signals.specs.Content.{Content, Nothing, Ram}
-use Rattle.wb_signals.specs.Device.{Outcome, outcome, on_ram, lanes_read, with_lanes, merged}
-use Rattle.wb_signals.specs.Wiring.{Wiring, Step, Arrival, step, stepped, lifted}
+use Rattle.wb_signals.specs.Content.{Nothing}
+use Rattle.wb_signals.specs.Device.{on_ram, merged}
+use Rattle.wb_signals.specs.Wiring.{Step, Arrival, step, stepped}
 use Rattle.wb_signals.specs.Bus.{bus}
 use Rattle.wb_signals.specs.Ram.{ram_wiring, ram_contents}
-use Rattle.wb_signals.specs.declared.answer.Answer.{Answer}
-use Rattle.wb_signals.specs.declared.answer.Answer.TheVariants.{Ack, Err}
+use Rattle.wb_signals.specs.declared.answer.Answer.TheVariants.{Err}
 use Rattle.eb_session.specs.Replies.{answer_word}
 use Rattle.eb_session.specs.OnRam.{stored, loaded}
 

@@ -1,5 +1,5 @@
 -- What is left of a capture, run from the RAM that there is now.
-use Rattle.std.proofs.Common.{◌≡◌, ℕ, ◌+◌, ◌<◌, ◌≤◌, ◌%◌, Bool, true, false, List, [], ◌∷◌, ◌++◌, length, map, take, drop, Option, Some, None, refl, sym, ap, ◌∙◌, subst, arith, length-append}
+use Rattle.std.proofs.Common.{◌≡◌, ℕ, ◌+◌, ◌<◌, ◌≤◌, Bool, true, false, List, [], ◌∷◌, ◌++◌, length, map, take, drop, Option, Some, refl, sym, ap, ◌∙◌, subst, arith}
 use Rattle.std.specs.List.{All}
 use Rattle.std.proofs.lemmas.List.{append_assoc, append-nil, map-append, take-append-drop, take_at, drop_at, drop-drop, drop_all, length-drop}
 use Rattle.eb_base.specs.declared.width.Width.{Width}
@@ -8,12 +8,12 @@ use Rattle.eb_codec.specs.declared.item.Header.{Header}
 use Rattle.eb_codec.specs.declared.item.Record.{Record}
 use Rattle.eb_codec.specs.declared.item.RecordHead.{RecordHead}
 use Rattle.eb_codec.specs.Form.{FitsRecord}
-use Rattle.eb_codec.specs.Stream.{StreamItem, Headed, Recorded, Spells, SpellsAll, header_after}
+use Rattle.eb_codec.specs.Stream.{StreamItem, Recorded, Spells, SpellsAll, header_after}
 use Rattle.eb_codec.specs.Decoding.{Progress}
 use Rattle.wb_signals.specs.Request.{Request}
 use Rattle.wb_signals.specs.Content.{Content}
 use Rattle.wb_signals.specs.Wiring.{Wiring}
-use Rattle.wb_signals.specs.History.{Entry, answers_of, cycle, contents_after, IsLegal, after}
+use Rattle.wb_signals.specs.History.{Entry, contents_after, IsLegal, after}
 use Rattle.wb_signals.specs.Ram.{ram_wiring, ram_contents}
 use Rattle.wb_signals.specs.declared.answer.Answer.{Answer}
 use Rattle.eb_session.specs.Operations.{record_ops, ends_cycle}
@@ -21,7 +21,7 @@ use Rattle.eb_session.specs.Cycles.{Group, group, Cut, nothing, cut_more, item_o
 use Rattle.eb_session.specs.Configuration.{register}
 use Rattle.eb_session.specs.Replies.{sets_of, slave, record_reply, replies_from}
 use Rattle.eb_session.specs.FirstForm.{header, IsPlain, IsAnswered, IsNoCapture}
-use Rattle.eb_session.specs.OnRam.{IsRam, ram_after, reply_of, record_in, Shows, StandsAt, TookHeader, TookRecord, BeginsWithNone}
+use Rattle.eb_session.specs.OnRam.{IsRam, ram_after, reply_of, record_in, StandsAt, TookHeader, TookRecord, BeginsWithNone}
 use Rattle.eb_session.proofs.Folds.{All-with}
 use Rattle.eb_session.proofs.Histories.{entry_of, entry_fit, entry_legal, entry_after, entry_given, entry_master, length-answers}
 use Rattle.eb_session.proofs.Words.{on_bus, answers_at, record_leaves, record_replied, is_ram, length-after_writes}
@@ -142,12 +142,12 @@ pub record RunsTo (first capture : List ℕ) (progress : Progress) (ram reply : 
   pub goes : (left more : List ℕ) → AnswersRest ram (drop at capture) left more → IsAnswered first left capture (reply ++ more)
   pub none : NoRecords (drop at capture) → IsNoCapture capture
 
-pub begins : (first capture reply : List ℕ) (new : Progress) (at : ℕ) → IsRam first → reply ≡ 0x4E ∷ 0x6F ∷ 0x14 ∷ 0x44 ∷ [] → TookHeader capture new at → RunsTo first capture new first reply at
-begins first capture reply new at is e took = record {
+pub begins : (first capture ram reply : List ℕ) (new : Progress) (at : ℕ) → IsRam first → ram ≡ first → reply ≡ 0x4E ∷ 0x6F ∷ 0x14 ∷ 0x44 ∷ [] → TookHeader capture new at → RunsTo first capture new ram reply at
+begins first capture ram reply new at is same e took = record {
   stands = took.stands;
   within = took.within;
-  is = is;
-  goes = λ left more a. subst (λ (l : List ℕ). IsAnswered first left capture (l ++ more)) (sym e) (header_first first capture left more new at took a);
+  is = subst IsRam (sym same) is;
+  goes = λ left more a. subst (λ (l : List ℕ). IsAnswered first left capture (l ++ more)) (sym e) (header_first first capture left more new at took (subst (λ (l : List ℕ). AnswersRest l (drop at capture) left more) same a));
   none = none_headed capture new at took;
 }
 

@@ -1,6 +1,5 @@
 -- The operations of a plain record on a RAM, and its reply.
-use Rattle.std.proofs.Common.{◌≡◌, ℕ, zero, suc, ◌+◌, ◌*◌, ◌%◌, ◌^◌, ◌<◌, ◌≤◌, ◌==◌, nat_lt, Bool, true, false, if◌then◌else◌, inl, inr, List, [], ◌∷◌, ◌++◌, length, get_or, take, drop, refl, sym, ap, ◌∙◌, subst, arith, length-append, length-drop}
-use Rattle.std.specs.List.{All}
+use Rattle.std.proofs.Common.{◌≡◌, ℕ, zero, suc, ◌+◌, ◌%◌, ◌^◌, ◌<◌, ◌≤◌, ◌==◌, nat_lt, Bool, true, false, if◌then◌else◌, inl, inr, List, [], ◌∷◌, ◌++◌, length, get_or, take, drop, refl, sym, ap, ◌∙◌, subst, arith, length-append, length-drop}
 use Rattle.std.proofs.lemmas.Bool.{cases_lt}
 use Rattle.std.proofs.lemmas.List.{length-take-le, get_or-append-add, get_or_append_left, get_or_push}
 use Rattle.std.proofs.lemmas.List.Elements.{All-get_or}
@@ -22,7 +21,7 @@ use Rattle.eb_session.specs.Operations.{upto, write_adr, write_at, read_at, bus_
 use Rattle.eb_session.specs.Configuration.{config_word}
 use Rattle.eb_session.specs.Replies.{slave, answer_word, read_word, answering, record_reply}
 use Rattle.eb_session.specs.FirstForm.{header, IsPlain}
-use Rattle.eb_session.specs.OnRam.{IsRam, stored, loaded, after_writes, ram_after, word_read, reply_of}
+use Rattle.eb_session.specs.OnRam.{IsRam, stored, after_writes, ram_after, word_read, reply_of}
 use Rattle.eb_session.proofs.Folds.{length-upto}
 use Rattle.eb_session.proofs.Histories.{contents_after-append, cycle-append, length-answers}
 use Rattle.eb_session.proofs.RamSteps.{write_step, read_step, read_answer}

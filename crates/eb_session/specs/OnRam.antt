@@ -1,5 +1,5 @@
 -- Plain records on one RAM, octet by octet.
-use Rattle.std.specs.Prelude.{◌≡◌, ◌⊎◌, ℕ, zero, suc, ◌+◌, ◌%◌, ◌^◌, ◌<◌, ◌≤◌, ◌==◌, nat_lt, if◌then◌else◌, List, [], ◌++◌, length, take, drop, map, All, slice_index, Option, Some, None}
+use Rattle.std.specs.Prelude.{◌≡◌, ◌⊎◌, ℕ, zero, suc, ◌+◌, ◌%◌, ◌^◌, ◌<◌, ◌≤◌, ◌==◌, nat_lt, if◌then◌else◌, List, [], ◌++◌, length, take, drop, slice_index, Option, Some, None}
 use Rattle.eb_base.specs.declared.width.Width.TheVariants.{W32}
 use Rattle.eb_base.specs.Field.{octets_of, number_at}
 use Rattle.eb_base.specs.Lanes.{port_address}
@@ -8,7 +8,7 @@ use Rattle.eb_codec.specs.declared.item.RecordHead.{RecordHead}
 use Rattle.eb_codec.specs.declared.event.Item.{Item}
 use Rattle.eb_codec.specs.declared.event.Item.TheVariants as item
 use Rattle.eb_codec.specs.Form.{zeroed, record_form, FitsRecord}
-use Rattle.eb_codec.specs.Stream.{Headed, Recorded, Spells, SpellsAll}
+use Rattle.eb_codec.specs.Stream.{Headed, Recorded, Spells}
 use Rattle.eb_codec.specs.Decoding.{Progress}
 use Rattle.eb_session.specs.Operations.{upto, write_adr}
 use Rattle.eb_session.specs.Replies.{sets_of, answering}

@@ -97,14 +97,13 @@ fn put_reply(
 pub fn run_record(
     decoder: &Decoder,
     head: RecordHead,
-    ram: &mut [u8],
+    ram: &mut Vec<u8>,
     reply: &mut Vec<u8>,
 ) -> Result<(), NoMemory>
     requires shows { Shows decoder.now head }
-    requires whole { length ram.old % 4 ≡ 0 }
-    ensures ram { ram.new ≡ ram_after ram.old (record_in decoder.now.shown) }
-    ensures size { length ram.new ≡ length ram.old }
-    ensures reply { OnOk result (reply.new.items ≡ reply.old.items ++ reply_of (ram_after ram.old (record_in decoder.now.shown)) (record_in decoder.now.shown)) }
+    requires whole { length ram.old.items % 4 ≡ 0 }
+    ensures ram { ram.new.items ≡ ram_after ram.old.items (record_in decoder.now.shown) }
+    ensures reply { OnOk result (reply.new.items ≡ reply.old.items ++ reply_of (ram_after ram.old.items (record_in decoder.now.shown)) (record_in decoder.now.shown)) }
 {
     store_values(decoder, head, ram);
     put_reply(decoder, head, ram, reply)
