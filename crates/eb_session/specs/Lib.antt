@@ -1,0 +1,6 @@
+pub mod Operations
+pub mod Cycles
+pub mod Configuration
+pub mod Replies
+pub mod FirstForm
+pub mod OnRam
