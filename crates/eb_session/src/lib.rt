@@ -9,3 +9,6 @@ mod shown;
 mod take;
 
 pub use first_session::FirstSession;
+
+#[cfg(test)]
+mod tests;
