@@ -1,0 +1,5 @@
+pub mod Operations
+pub mod Cycles
+pub mod Configuration
+pub mod Replies
+pub mod FirstForm
