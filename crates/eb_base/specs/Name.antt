@@ -1,5 +1,5 @@
 -- What a name is.
-use Rattle.std.specs.Prelude.{ℕ, ◌-◌, ◌&&◌, ◌==◌, List, [], ◌∷◌, ◌++◌, length, replicate, Bool, true, not, nat_le, nat_lt, slice_index}
+use Rattle.std.specs.Prelude.{◌≡◌, ℕ, ◌-◌, ◌&&◌, ◌==◌, List, [], ◌∷◌, ◌++◌, length, replicate, Bool, true, not, nat_le, nat_lt, slice_index}
 
 -- an octet that can be printed
 abbrev pub is_printed : ℕ → Bool
@@ -18,3 +18,7 @@ is_name text = nat_le (length text) 19 && are_printed text && not (ends_in_space
 -- the name in 19 octets
 abbrev pub padded : List ℕ → List ℕ
 padded text = text ++ replicate (19 - length text) 0x20
+
+-- 19 octets are a name with its padding exactly where all can be printed
+abbrev pub IsPadded : List ℕ → Type 0
+IsPadded octets = (length octets ≡ 19) × (are_printed octets ≡ true)

@@ -1,7 +1,7 @@
 ghost use Rattle.std.specs.Prelude.{◌≡◌, MatchOption};
 ghost use Rattle.eb_base.specs.Width.{octets, bit, IsNoBit};
 
-/// A width of addresses or of a port.
+/// A width of addresses or of data: 8, 16, 32 or 64 bits.
 #[derive(Clone, Copy, Debug, PartialEq, Eq)]
 pub enum Width {
     W8,
@@ -23,7 +23,7 @@ impl Width {
         }
     }
 
-    /// Its bit in a set of widths.
+    /// Its bit in a set of widths (Etherbone 1.0: bit 0 is 8 bits, bit 3 is 64 bits).
     pub fn bit(self) -> u8
         ensures { result ≡ bit self }
     {
@@ -35,9 +35,9 @@ impl Width {
         }
     }
 
-    /// The width of a bit.
+    /// The width of a bit. None exactly where `b` is none of 1, 2, 4 and 8.
     pub fn from_bit(b: u8) -> Option<Width>
-        ensures { MatchOption result (IsNoBit b) (λ w. bit w ≡ b) }
+        ensures width { MatchOption result (IsNoBit b) (λ w. bit w ≡ b) }
     {
         match b {
             1 => Some(Width::W8),
@@ -49,7 +49,7 @@ impl Width {
     }
 }
 
-/// Two sets of width bits.
+/// A set of address widths and a set of data widths, as width bits. Each is below 16.
 #[derive(Clone, Copy, Debug, PartialEq, Eq)]
 pub struct Widths {
     pub addresses: u8,

@@ -1,0 +1,13 @@
+pub mod Counts
+pub mod Reading
+pub mod Writing
+pub mod Outside
+pub mod Plan
+pub mod Calls
+pub mod MemSource
+pub mod MemSink
+pub mod Shelf
+pub mod MemWorld
+pub mod FileSource
+pub mod StdSink
+pub mod RealWorld
