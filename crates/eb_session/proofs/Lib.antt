@@ -1,0 +1,8 @@
+pub mod Fitting
+pub mod Space
+pub mod Going
+pub mod Asked
+pub mod Legal
+pub mod Feeding
+pub mod Short
+pub mod Whole

@@ -3,3 +3,7 @@ pub mod Cycles
 pub mod Configuration
 pub mod Replies
 pub mod FirstForm
+pub mod Shown
+pub mod Keeping
+pub mod Course
+pub mod Inside

@@ -1,2 +1,12 @@
 //! The slave's session: the bus cycles of a stream, the error register, and the replies; and a session over one RAM.
 #![tactic(auto)]
+
+mod configuration;
+pub mod laws;
+mod operations;
+mod replying;
+mod running;
+pub mod session;
+mod shown;
+
+pub use session::{End, Fed, Session};
