@@ -1,9 +1,9 @@
 -- What a slave replies to the items of a stream.
-use Rattle.std.specs.Prelude.{ℕ, ◌+◌, ◌-◌, ◌*◌, ◌==◌, Bool, true, false, cond, if◌then◌else◌, List, [], ◌∷◌, ◌++◌, length, take, drop, replicate, slice_index, slice_index_or, Option, Some, None}
+use Rattle.std.specs.Prelude.{ℕ, ◌+◌, ◌-◌, ◌*◌, ◌==◌, cond, if◌then◌else◌, List, [], ◌∷◌, ◌++◌, length, take, drop, replicate, slice_index, slice_index_or, Option, Some, None}
 use Rattle.eb_base.specs.declared.width.Width.{Width}
 use Rattle.eb_base.specs.declared.width.Width.TheVariants.{W32}
 use Rattle.eb_base.specs.declared.width.Widths.{Widths}
-use Rattle.eb_base.specs.Width.{octets, bit}
+use Rattle.eb_base.specs.Width.{bit}
 use Rattle.eb_base.specs.Field.{octets_of}
 use Rattle.eb_base.specs.Lanes.{word_of}
 use Rattle.eb_codec.specs.declared.item.Header.{Header}

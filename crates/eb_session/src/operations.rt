@@ -7,7 +7,7 @@ ghost use Rattle.eb_session.specs.Operations.{write_at, read_at, record_ops, upt
 ghost use Rattle.eb_session.specs.Shown.{Shows, record_in, answered_to};
 ghost use Rattle.eb_session.specs.Keeping.{Asks, is_some, made_with};
 
-use crate::shown::{address, value, write_base};
+use crate::record_shown::{address, value, write_base};
 use eb_base::{NoMemory, Width, place};
 use eb_codec::{Decoder, Header, RecordHead};
 use std::alloc::Global;

@@ -1,49 +1,37 @@
-ghost use Rattle.std.specs.Prelude.{◌≡◌, ◌<◌, ◌^◌, slice_index};
-ghost use Rattle.eb_base.specs.Width.{octets};
-ghost use Rattle.eb_session.specs.Shown.{record_in, Shows};
+// What the record that a decoder shows says, in words of 32 bits.
+ghost use Rattle.std.specs.Prelude.{◌≡◌, ◌<◌, slice_index};
+ghost use Rattle.eb_session.specs.OnRam.{record_in, Shows};
 
-use eb_codec::{Decoder, Header, RecordHead};
+use eb_codec::{Decoder, RecordHead};
 
-// What the record that was just given says.
-
-/// The base address of its writes.
-pub fn write_base(decoder: &Decoder, header: Header, head: RecordHead) -> u64
-    requires shows { Shows decoder.now header head }
-    ensures value { result ≡ (record_in decoder.now.shown).write_base }
+pub fn write_base(decoder: &Decoder, head: RecordHead) -> u32
+    requires { Shows decoder.now head }
+    ensures { result ≡ (record_in decoder.now.shown).write_base }
 {
-    let _fits = header.no_reply;
     let _head = head.flags;
-    decoder.write_base()
+    decoder.write_base() as u32
 }
 
-/// The base address of its reply.
-pub fn return_base(decoder: &Decoder, header: Header, head: RecordHead) -> u64
-    requires shows { Shows decoder.now header head }
-    ensures value { result ≡ (record_in decoder.now.shown).return_base }
-    ensures most { result < 256 ^ octets header.address }
+pub fn return_base(decoder: &Decoder, head: RecordHead) -> u32
+    requires { Shows decoder.now head }
+    ensures { result ≡ (record_in decoder.now.shown).return_base }
 {
-    let _fits = header.no_reply;
     let _head = head.flags;
-    decoder.return_base()
+    decoder.return_base() as u32
 }
 
-/// A value that it writes.
-pub fn value(decoder: &Decoder, header: Header, head: RecordHead, i: usize) -> u64
-    requires shows { Shows decoder.now header head }
+pub fn value(decoder: &Decoder, head: RecordHead, i: usize) -> u32
+    requires shows { Shows decoder.now head }
     requires inside { i < head.writes }
-    ensures value { result ≡ slice_index (record_in decoder.now.shown).values i }
-    ensures most { result < 256 ^ octets header.port }
+    ensures { result ≡ slice_index (record_in decoder.now.shown).values i }
 {
-    let _fits = header.no_reply;
-    decoder.value(i)
+    decoder.value(i) as u32
 }
 
-/// An address that it reads.
-pub fn address(decoder: &Decoder, header: Header, head: RecordHead, i: usize) -> u64
-    requires shows { Shows decoder.now header head }
+pub fn address(decoder: &Decoder, head: RecordHead, i: usize) -> u32
+    requires shows { Shows decoder.now head }
     requires inside { i < head.reads }
-    ensures value { result ≡ slice_index (record_in decoder.now.shown).addresses i }
+    ensures { result ≡ slice_index (record_in decoder.now.shown).addresses i }
 {
-    let _fits = header.no_reply;
-    decoder.address(i)
+    decoder.address(i) as u32
 }

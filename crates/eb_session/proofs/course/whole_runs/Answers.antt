@@ -1,6 +1,6 @@
 use Rattle.eb_session.proofs.Whole.{begins, fed_goes, runs_all, finish_ends, fed_ends}
 use Rattle.eb_session.proofs.Short.{is_short}
-use Rattle.eb_session.proofs.laws.whole_runs.Goals as goal
+use Rattle.eb_session.proofs.course.whole_runs.Goals as goal
 
 pub returns-clause-begins : goal.returns-clause-begins
 returns-clause-begins c = begins
