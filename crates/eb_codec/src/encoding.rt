@@ -13,8 +13,8 @@ use eb_base::{NoMemory, Width};
 
 const ZEROS: [u8; 8] = [0; 8];
 
-// Appends octets for which there is room.
-fn put(out: &mut Vec<u8>, octets: &[u8])
+/// Appends octets for which there is room.
+pub fn put(out: &mut Vec<u8>, octets: &[u8])
     requires { vec_len out.old + length octets.now ≤ vec_capacity out.old }
     ensures items { out.new.items ≡ out.old.items ++ octets.now }
     ensures len { vec_len out.new ≡ vec_len out.old + length octets.now }
@@ -26,8 +26,8 @@ fn put(out: &mut Vec<u8>, octets: &[u8])
     }
 }
 
-// Appends padding.
-fn put_zeros(out: &mut Vec<u8>, n: usize)
+/// Appends padding for which there is room.
+pub fn put_zeros(out: &mut Vec<u8>, n: usize)
     requires room { vec_len out.old + n ≤ vec_capacity out.old }
     requires few { n ≤ 8 }
     ensures items { out.new.items ≡ out.old.items ++ replicate n 0 }
@@ -54,8 +54,8 @@ fn put_number(out: &mut Vec<u8>, width: Width, n: u64)
     }
 }
 
-// Appends a number in its field.
-fn put_field(out: &mut Vec<u8>, header: Header, width: Width, n: u64)
+/// Appends a number in its field, for which there is room.
+pub fn put_field(out: &mut Vec<u8>, header: Header, width: Width, n: u64)
     requires room { vec_len out.old + field_octets header ≤ vec_capacity out.old }
     requires fits { n < 256 ^ width_octets width }
     requires narrow { width_octets width ≤ field_octets header }

@@ -9,7 +9,7 @@ pub mod laws;
 mod reading;
 mod room;
 mod rules;
-mod sizes;
+pub mod sizes;
 pub mod words;
 
 pub use decoder::Decoder;

@@ -7,3 +7,11 @@ pub mod ReplyForm
 pub mod Fronts
 pub mod Rest
 pub mod OneAnswer
+pub mod Fitting
+pub mod Space
+pub mod Going
+pub mod Asked
+pub mod Legal
+pub mod Feeding
+pub mod Short
+pub mod Whole

@@ -4,3 +4,7 @@ pub mod Configuration
 pub mod Replies
 pub mod FirstForm
 pub mod OnRam
+pub mod Shown
+pub mod Keeping
+pub mod Course
+pub mod Inside
