@@ -4,4 +4,5 @@ pub mod Device
 pub mod Wiring
 pub mod Bus
 pub mod History
+pub mod Cycles
 pub mod Ram
