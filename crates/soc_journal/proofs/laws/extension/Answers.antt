@@ -1,0 +1,5 @@
+use Rattle.soc_journal.proofs.Growing.{Extends-self, Extends-on, ExtendsBy-on}
+use Rattle.soc_journal.proofs.laws.extension.Goals as goal
+
+pub returns : goal.returns
+returns c = record { itself = Extends-self; on = Extends-on; by_on = ExtendsBy-on }

@@ -1,0 +1,5 @@
+pub mod Journal
+pub mod Growth
+pub mod Ledger
+pub mod Text
+pub mod Writing
