@@ -1,16 +1,15 @@
 -- The first octet that breaks a rule is the first bad octet.
-use Rattle.std.proofs.Common.{◌≡◌, ℕ, zero, suc, ◌+◌, ◌-◌, ◌<◌, ◌≤◌, List, [], ◌∷◌, ◌++◌, length, take, drop, get_or, Option, Some, None, refl, sym, ap, subst, ◌∙◌, arith, inl, inr}
+use Rattle.std.proofs.Common.{◌≡◌, ℕ, ◌+◌, ◌<◌, List, ◌++◌, length, take, drop, Option, Some, sym, ap, ◌∙◌, arith, inl, inr}
 use Rattle.std.proofs.lemmas.Bool.{cases_lt}
-use Rattle.std.proofs.lemmas.List.{append-nil, append_assoc, length-take, length-append, take-append-drop, nil_from_length}
+use Rattle.std.proofs.lemmas.List.{length-take, length-append, take-append-drop}
 use Rattle.eb_base.specs.declared.width.Widths.{Widths}
 use Rattle.eb_base.proofs.FieldLemmas.{IsBytes}
 use Rattle.eb_codec.specs.declared.item.Header.{Header}
 use Rattle.eb_codec.specs.declared.item.Why.{Why}
 use Rattle.eb_codec.specs.Rules.{broken}
-use Rattle.eb_codec.specs.Stream.{HaveWidths, StreamItem, BreaksNone, Spells, SpellsAll, IsBadOctet}
-use Rattle.eb_codec.specs.Reading.{size}
+use Rattle.eb_codec.specs.Stream.{HaveWidths, BreaksNone, IsBadOctet}
 use Rattle.eb_codec.proofs.FieldLemmas.{IsBytes-take}
-use Rattle.eb_codec.proofs.ItemLemmas.{size-ge, form_read, broken_front, broken_later}
+use Rattle.eb_codec.proofs.ItemLemmas.{size-ge, broken_front, broken_later}
 use Rattle.eb_codec.proofs.Completion.{is_partial}
 
 some_lt : (sets : Widths) (header : Option Header) (o : List ℕ) (k : ℕ) (why : Why) → broken sets header o k ≡ Some why → k < 4

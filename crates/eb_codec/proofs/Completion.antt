@@ -1,21 +1,18 @@
 -- What hasn't broken a rule yet and is no whole item goes on to an item.
-use Rattle.std.proofs.Common.{◌≡◌, ℕ, zero, suc, ◌+◌, ◌-◌, ◌*◌, ◌/◌, ◌%◌, ◌^◌, ◌<◌, ◌≤◌, Bool, true, false, not, ◌&&◌, ◌||◌, cond, eqb, leb, bit_and, List, [], ◌∷◌, ◌++◌, length, take, drop, replicate, get_or, Option, Some, None, refl, sym, ap, subst, ◌∙◌, arith, inl, inr, lit<}
-use Rattle.std.specs.List.{find}
-use Rattle.std.proofs.lemmas.Bool.{or_right, or_parts, or_cases, and_from, and_parts, eq-eqb, not_from_false, not_from_true, both_ways, and_right, not-false, not-true, eqb-true, ne_eqb, agree_below, agree_below_at, cases_Bool, cases_lt, cases_eq, false≢true, cond-true, cond-false}
-use Rattle.std.proofs.lemmas.List.{take-append-drop, take_all, length-take, length-drop, length-append, length-replicate, get_or_append_left, get_or-append_right, get_or-replicate, get_or_past, get_or-take, take_at, append-nil, append_assoc, append_cancel_left}
+use Rattle.std.proofs.Common.{◌≡◌, ℕ, zero, suc, ◌+◌, ◌-◌, ◌*◌, ◌/◌, ◌%◌, ◌^◌, ◌<◌, ◌≤◌, Bool, true, false, ◌&&◌, ◌||◌, cond, eqb, leb, List, [], ◌∷◌, ◌++◌, length, replicate, Option, Some, None, refl, sym, ap, subst, ◌∙◌, arith, inl, inr, lit<}
+use Rattle.std.proofs.lemmas.Bool.{or_right, or_cases, and_from, and_parts, not_from_true, and_right, eqb-true, agree_below, agree_below_at, cases_Bool, cases_lt, cases_eq}
+use Rattle.std.proofs.lemmas.List.{length-append, length-replicate, get_or_append_left, get_or-append_right, get_or-replicate, get_or_past, append-nil, append_assoc}
 use Rattle.eb_base.specs.declared.width.Width.{Width}
 use Rattle.eb_base.specs.declared.width.Width.TheVariants.{W8, W16, W32, W64}
 use Rattle.eb_base.specs.declared.width.Widths.{Widths}
-use Rattle.eb_base.specs.Width.{octets, bit, AreSets}
+use Rattle.eb_base.specs.Width.{octets}
 use Rattle.eb_base.proofs.FieldLemmas.{IsBytes}
 use Rattle.eb_codec.specs.declared.item.Header.{Header}
-use Rattle.eb_codec.specs.declared.item.Why.{Why}
-use Rattle.eb_codec.specs.declared.item.Why.TheVariants.{Magic, Version, Response, Reserved, Width as BadWidth, Flag, Beyond, NoEnable, NoReply}
-use Rattle.eb_codec.specs.Rules.{has, is_one_width, has_common, has_widths, breaks, rules, broken}
+use Rattle.eb_codec.specs.Rules.{has, is_one_width, has_common, has_widths, breaks, broken}
 use Rattle.eb_codec.specs.Stream.{HaveWidths, StreamItem, BreaksNone, Spells, IsPartial}
-use Rattle.eb_codec.specs.Reading.{size, entry_of}
-use Rattle.eb_codec.proofs.RuleLemmas.{BreaksAt, none_of, from_none}
-use Rattle.eb_codec.proofs.ItemLemmas.{form_read, size-ge, size_front, spells_entry, broken_front, broken_later}
+use Rattle.eb_codec.specs.Reading.{size, item_in}
+use Rattle.eb_codec.proofs.RuleLemmas.{from_none}
+use Rattle.eb_codec.proofs.ItemLemmas.{form_read, size-ge, size_front, spells_item_in, broken_front, broken_later}
 
 -- the lowest width of a set
 abbrev lowest : ℕ → ℕ
@@ -110,17 +107,17 @@ record Sound (sets : Widths) (header : Option Header) (o : List ℕ) : Type 0 wh
   bytes : IsBytes o
 
 -- up to four octets
-grow : (n : ℕ) (sets : Widths) (header : Option Header) (o : List ℕ) → HaveWidths sets → Sound sets header o → length o + n ≡ 4 → (more : List ℕ) × Sound sets header (o ++ more) × (length (o ++ more) ≡ 4)
-grow zero sets header o have sound len = ([], subst (Sound sets header) (sym (append-nil o)) sound, ap length (append-nil o) ∙ omega arith)
+grow : (n : ℕ) (sets : Widths) (header : Option Header) (o : List ℕ) → HaveWidths sets → Sound sets header o → length o + n ≡ 4 → (more : List ℕ) × Sound sets header (o ++ more) × (length (o ++ more) ≡ 4) × IsBytes more
+grow zero sets header o have sound len = ([], subst (Sound sets header) (sym (append-nil o)) sound, ap length (append-nil o) ∙ omega arith, λ i. lit< tt)
 grow (suc n) sets header o have sound len =
     let c = next sets header o have (omega arith) in
     let one : List ℕ = c.0 ∷ [] in
     let longer : Sound sets header (o ++ one) = record { none = step_none sets header o c.0 sound.none c.2; bytes = IsBytes-append o one sound.bytes (IsBytes-one c.0 c.1) } in
     let rest = grow n sets header (o ++ one) have longer (omega (arith, length-append o one)) in
-    (one ++ rest.0, subst (Sound sets header) (append_assoc o one rest.0) rest.1, ap length (sym (append_assoc o one rest.0)) ∙ rest.2)
+    (one ++ rest.0, subst (Sound sets header) (append_assoc o one rest.0) rest.1, ap length (sym (append_assoc o one rest.0)) ∙ rest.2, IsBytes-append one rest.0 (IsBytes-one c.0 c.1) rest.3)
 
 -- from four octets on padding completes the item
-finish : (sets : Widths) (header : Option Header) (o : List ℕ) → Sound sets header o → 4 ≤ length o → length o ≤ size header o → (x : StreamItem) × (more : List ℕ) × Spells sets header x (o ++ more)
+finish : (sets : Widths) (header : Option Header) (o : List ℕ) → Sound sets header o → 4 ≤ length o → length o ≤ size header o → (x : StreamItem) × (more : List ℕ) × Spells sets header x (o ++ more) × IsBytes more
 finish sets header o sound long le =
     let zeros : List ℕ = replicate (size header o - length o) 0 in
     let whole : List ℕ = o ++ zeros in
@@ -129,28 +126,28 @@ finish sets header o sound long le =
       | inl lt' ↦ broken_front sets header o zeros k lt' ∙ sound.none k lt'
       | inr ge ↦ broken_later sets header whole k (omega arith)
     ] in
-    (entry_of header whole, zeros, spells_entry sets header whole none len (IsBytes-append o zeros sound.bytes (IsBytes-zeros (size header o - length o))))
+    (item_in header whole, zeros, spells_item_in sets header whole none len (IsBytes-append o zeros sound.bytes (IsBytes-zeros (size header o - length o))), IsBytes-zeros (size header o - length o))
 
-pub begins : (sets : Widths) (header : Option Header) (o : List ℕ) → HaveWidths sets → BreaksNone sets header o → IsBytes o → length o < size header o → (x : StreamItem) × (more : List ℕ) × Spells sets header x (o ++ more)
+pub begins : (sets : Widths) (header : Option Header) (o : List ℕ) → HaveWidths sets → BreaksNone sets header o → IsBytes o → length o < size header o → (x : StreamItem) × (more : List ℕ) × Spells sets header x (o ++ more) × IsBytes more
 begins sets header o have none bytes lt =
     let sound : Sound sets header o = record { none = none; bytes = bytes } in
     elim (cases_lt (length o) 4) [
       | inl short ↦
           let g = grow (4 - length o) sets header o have sound (omega arith) in
           let f = finish sets header (o ++ g.0) g.1 (omega (arith, g.2)) (omega (arith, g.2, size-ge header (o ++ g.0))) in
-          (f.0, g.0 ++ f.1, subst (Spells sets header f.0) (append_assoc o g.0 f.1) f.2)
+          (f.0, g.0 ++ f.1, subst (Spells sets header f.0) (append_assoc o g.0 f.1) f.2, IsBytes-append g.0 f.1 g.3 f.3)
       | inr long ↦ finish sets header o sound long (omega arith)
     ]
 
-not_whole : (sets : Widths) (header : Option Header) (o more : List ℕ) (x : StreamItem) → length o < size header o → Spells sets header x (o ++ more) → IsPartial sets header o
-not_whole sets header o [] x lt s =
+not_whole : (sets : Widths) (header : Option Header) (o more : List ℕ) (x : StreamItem) → length o < size header o → Spells sets header x (o ++ more) → IsBytes more → IsPartial sets header o
+not_whole sets header o [] x lt s bytes =
     let e = (form_read header x (o ++ []) s.form).1 in
     let n : length o ≡ size header o = ap length (sym (append-nil o)) ∙ e ∙ ap (size header) (append-nil o) in
     absurd (omega arith)
-not_whole sets header o (b ∷ more) x lt s = (x, b, more, s)
+not_whole sets header o (b ∷ more) x lt s bytes = (x, b, more, s, bytes)
 
 -- what breaks no rule and is no whole item is partial
 pub is_partial : (sets : Widths) (header : Option Header) (o : List ℕ) → HaveWidths sets → BreaksNone sets header o → IsBytes o → length o < size header o → IsPartial sets header o
 is_partial sets header o have none bytes lt =
     let b = begins sets header o have none bytes lt in
-    not_whole sets header o b.1 b.0 lt b.2
+    not_whole sets header o b.1 b.0 lt b.2 b.3

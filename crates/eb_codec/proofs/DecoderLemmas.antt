@@ -1,25 +1,23 @@
 -- One feed of the decoder, over plain values.
-use Rattle.std.proofs.Common.{◌≡◌, ℕ, zero, suc, ◌+◌, ◌-◌, ◌<◌, ◌≤◌, Bool, true, false, List, [], ◌∷◌, ◌++◌, length, take, drop, replicate, get_or, Option, Some, None, refl, sym, ap, subst, ◌∙◌, arith, inl, inr}
+use Rattle.std.proofs.Common.{◌≡◌, ℕ, ◌+◌, ◌-◌, ◌<◌, ◌≤◌, Bool, true, false, List, [], ◌++◌, length, take, replicate, get_or, Option, Some, None, refl, sym, ap, subst, ◌∙◌, arith, inl, inr}
 use Rattle.std.specs.Prelude.{MatchOption}
 use Rattle.std.proofs.lemmas.Bool.{cases_lt, cases_Bool, cond-true, cond-false}
-use Rattle.std.proofs.lemmas.List.{append-nil, length-take, length-append, take-take, take_all, length-replicate}
+use Rattle.std.proofs.lemmas.List.{append-nil, length-take, length-replicate}
 use Rattle.eb_base.specs.declared.width.Widths.{Widths}
 use Rattle.eb_base.proofs.FieldLemmas.{IsBytes}
 use Rattle.eb_codec.specs.declared.item.Header.{Header}
 use Rattle.eb_codec.specs.declared.item.Why.{Why}
 use Rattle.eb_codec.specs.declared.event.Malformed.{Malformed}
-use Rattle.eb_codec.specs.declared.event.Step.{Step}
-use Rattle.eb_codec.specs.declared.event.Item.{Item}
 use Rattle.eb_codec.specs.declared.event.Item.TheVariants as item
-use Rattle.eb_codec.specs.Rules.{has, broken}
+use Rattle.eb_codec.specs.Rules.{has}
 use Rattle.eb_codec.specs.Stream.{HaveWidths, StreamItem, Probed, Headed, Recorded, BreaksNone, Spells, IsPartial}
-use Rattle.eb_codec.specs.Reading.{size, entry_of, record_of, record_head_of, probe_of, header_of}
-use Rattle.eb_codec.specs.declared.item.Record.{Record}
-use Rattle.eb_codec.specs.Decoding.{Progress, told, Gives, TakesAll, Takes, Refuses, IsFilled, IsBroken}
+use Rattle.eb_codec.specs.Reading.{size, item_in, record_of, record_head_of, probe_of, header_of}
+use Rattle.eb_codec.specs.Decoding.{Progress, told, Gives, TakesAll, Takes, Refuses}
+use Rattle.eb_codec.specs.Filling.{IsFilled, IsBroken}
 use Rattle.eb_codec.specs.Keeping.{tells_record, kept_octets, header_told}
-use Rattle.eb_codec.specs.Inside.{pending_in, shown_in, progress_of, HoldsItem, Holds}
+use Rattle.eb_codec.specs.Inside.{pending_in, progress_of, Holds}
 use Rattle.eb_codec.proofs.FieldLemmas.{IsBytes-take}
-use Rattle.eb_codec.proofs.ItemLemmas.{size-ge, size_front, spells_entry}
+use Rattle.eb_codec.proofs.ItemLemmas.{size-ge, spells_item_in}
 use Rattle.eb_codec.proofs.Completion.{is_partial, IsBytes-zeros}
 use Rattle.eb_codec.proofs.Bad.{bad_octet}
 use Rattle.eb_codec.proofs.RoomLemmas.{size_take}
@@ -83,23 +81,23 @@ takes_all (Recorded r) taken len le = le
 
 -- a whole item
 pub gives_whole : (sets : Widths) (header : Option Header) (held : List ℕ) (shows : Bool) (start : ℕ) (fault : Option Malformed) (octets room' : List ℕ) (n : ℕ) → BreaksNone sets header octets → length octets ≡ size header octets → IsBytes octets → take n room' ≡ octets → length octets ≡ n
-    → Gives (progress_of sets header held shows start fault) octets (told (entry_of header octets))
-    (progress_of sets (header_told header (told (entry_of header octets))) (take (kept_octets (told (entry_of header octets)) n) room') (tells_record (told (entry_of header octets))) (start + n) fault)
-unfolding entry_of
+    → Gives (progress_of sets header held shows start fault) octets (told (item_in header octets))
+    (progress_of sets (header_told header (told (item_in header octets))) (take (kept_octets (told (item_in header octets)) n) room') (tells_record (told (item_in header octets))) (start + n) fault)
+unfolding item_in
 gives_whole sets None held shows start fault octets room' n none len bytes front n-is =
-    let s : Spells sets None (entry_of None octets) octets = spells_entry sets None octets none len bytes in
+    let s : Spells sets None (item_in None octets) octets = spells_item_in sets None octets none len bytes in
     elim (cases_Bool (has (get_or octets 2 0) 1)) [
       | inl y ↦
-          let e : entry_of None octets ≡ Probed (probe_of octets) = cond-true _ _ _ y in
+          let e : item_in None octets ≡ Probed (probe_of octets) = cond-true _ _ _ y in
           rw y (subst (λ (x : StreamItem). Spells sets None x octets) e s, ap (λ (k : ℕ). record { sets = sets; header = None; start = start + k; pending = []; shown = None; fault = fault }) (sym n-is))
       | inr z ↦
-          let e : entry_of None octets ≡ Headed (header_of octets) = cond-false _ _ _ z in
+          let e : item_in None octets ≡ Headed (header_of octets) = cond-false _ _ _ z in
           rw z (subst (λ (x : StreamItem). Spells sets None x octets) e s, ap (λ (k : ℕ). record { sets = sets; header = Some (header_of octets); start = start + k; pending = []; shown = None; fault = fault }) (sym n-is))
     ]
 gives_whole sets (Some h) held shows start fault octets room' n none len bytes front n-is = (
   record_of h octets,
   refl,
-  spells_entry sets (Some h) octets none len bytes,
+  spells_item_in sets (Some h) octets none len bytes,
   same_progress sets h fault start n (length octets) (take n room') octets (sym n-is) front,
 )
 
@@ -118,20 +116,20 @@ moves_on sets header pending piece room room' len n p plen filled size-is =
 
 pub whole : (sets : Widths) (header : Option Header) (held : List ℕ) (shows : Bool) (start : ℕ) (fault : Option Malformed) (piece room room' : List ℕ) (len n : ℕ) → IsBytes room' → Pends sets header (pending_in shows held) room len → length (take len room) ≡ len
     → n ≤ length room' → IsFilled sets header (take len room) piece room' n → n ≡ size header (take n room')
-    → Takes (progress_of sets header held shows start fault) piece (record { taken = n - len; item = told (entry_of header (take n room')) })
-    (progress_of sets (header_told header (told (entry_of header (take n room')))) (take (kept_octets (told (entry_of header (take n room'))) n) room') (tells_record (told (entry_of header (take n room')))) (start + n) fault)
+    → Takes (progress_of sets header held shows start fault) piece (record { taken = n - len; item = told (item_in header (take n room')) })
+    (progress_of sets (header_told header (told (item_in header (take n room')))) (take (kept_octets (told (item_in header (take n room'))) n) room') (tells_record (told (item_in header (take n room')))) (start + n) fault)
 whole sets header held shows start fault piece room room' len n bytes p plen fits filled size-is =
     let octets : List ℕ = take n room' in
     let old : Progress = progress_of sets header held shows start fault in
     let long : length octets ≡ n = omega (arith, length-take n room') in
     let same : octets ≡ pending_in shows held ++ take (n - len) piece = filled.holds ∙ ap (λ (k : ℕ). take len room ++ take (n - k) piece) plen ∙ ap (λ (l : List ℕ). l ++ take (n - len) piece) p.is in
     let moved : 0 < n - len = moves_on sets header (pending_in shows held) piece room room' len n p plen filled size-is in
-    let new : Progress = progress_of sets (header_told header (told (entry_of header octets))) (take (kept_octets (told (entry_of header octets)) n) room') (tells_record (told (entry_of header octets))) (start + n) fault in
-    let gives : Gives old octets (told (entry_of header octets)) new = gives_whole sets header held shows start fault octets room' n filled.none (long ∙ size-is) (IsBytes-take n room' bytes) refl long in
+    let new : Progress = progress_of sets (header_told header (told (item_in header octets))) (take (kept_octets (told (item_in header octets)) n) room') (tells_record (told (item_in header octets))) (start + n) fault in
+    let gives : Gives old octets (told (item_in header octets)) new = gives_whole sets header held shows start fault octets room' n filled.none (long ∙ size-is) (IsBytes-take n room' bytes) refl long in
     record {
-      taken = takes_all (entry_of header octets) (n - len) (length piece) (omega (arith, filled.most));
+      taken = takes_all (item_in header octets) (n - len) (length piece) (omega (arith, filled.most));
       moves = λ some. moved;
-      gives = subst (λ (l : List ℕ). Gives old l (told (entry_of header octets)) new) same gives;
+      gives = subst (λ (l : List ℕ). Gives old l (told (item_in header octets)) new) same gives;
     }
 
 -- the room when nothing pends
@@ -145,8 +143,8 @@ holds_part sets header room n have len bytes most none lt =
 
 -- what is kept of a whole item
 pub holds_whole : (sets : Widths) (header : Option Header) (room' : List ℕ) (n : ℕ) → HaveWidths sets → length room' ≡ 4104 → IsBytes room' → n ≤ 4104 → n ≡ size header (take n room')
-    → Holds sets (header_told header (told (entry_of header (take n room')))) room' (kept_octets (told (entry_of header (take n room'))) n) (tells_record (told (entry_of header (take n room'))))
-unfolding entry_of
+    → Holds sets (header_told header (told (item_in header (take n room')))) room' (kept_octets (told (item_in header (take n room'))) n) (tells_record (told (item_in header (take n room'))))
+unfolding item_in
 holds_whole sets None room' n have len bytes most size-is =
     elim (cases_Bool (has (get_or (take n room') 2 0) 1)) [
       | inl y ↦ rw y (holds_nothing sets None room' have len bytes)

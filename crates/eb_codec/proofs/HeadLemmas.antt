@@ -1,24 +1,23 @@
 -- A header or probe: what its octets read as has its form, and what has its form reads so.
-use Rattle.std.proofs.Common.{◌≡◌, ℕ, zero, suc, ◌+◌, ◌-◌, ◌*◌, ◌/◌, ◌%◌, ◌^◌, ◌<◌, ◌≤◌, Bool, true, false, not, ◌&&◌, ◌||◌, cond, eqb, bit_and, List, [], ◌∷◌, ◌++◌, length, take, drop, get_or, Option, Some, None, refl, sym, ap, subst, ◌∙◌, arith, inl, inr}
-use Rattle.std.proofs.lemmas.Bool.{or_parts, or_cases, and_from, and_parts, eq-eqb, not_from_false, both_ways, and_right, not-false, not-true, eqb-true, ne_eqb, agree_below, agree_below_at, cases_Bool, cases_lt, false≢true}
-use Rattle.std.proofs.lemmas.List.{take-append-drop, take_all, length-take, length-drop, length-append, get_or_append_left, get_or-take}
+use Rattle.std.proofs.Common.{◌≡◌, ℕ, ◌+◌, ◌-◌, ◌*◌, ◌/◌, ◌%◌, ◌≤◌, Bool, true, false, ◌||◌, List, [], ◌∷◌, ◌++◌, length, take, drop, get_or, refl, sym, ap, subst, ◌∙◌, arith, inl, inr}
+use Rattle.std.proofs.lemmas.Bool.{or_cases, and_parts, both_ways, eqb-true}
+use Rattle.std.proofs.lemmas.List.{take-append-drop, take_all, length-drop, length-append, get_or-take}
 use Rattle.eb_base.specs.declared.width.Width.{Width}
 use Rattle.eb_base.specs.declared.width.Width.TheVariants.{W8, W16, W32, W64}
 use Rattle.eb_base.specs.declared.width.Widths.{Widths}
-use Rattle.eb_base.specs.Width.{octets, bit, AreSets}
+use Rattle.eb_base.specs.Width.{bit}
 use Rattle.eb_base.specs.Field.{octets_of, number, number_at}
 use Rattle.eb_base.proofs.FieldLemmas.{IsBytes, length-octets_of, octets_of-number, number-octets_of, number-lt}
 use Rattle.eb_codec.specs.declared.item.Header.{Header}
 use Rattle.eb_codec.specs.declared.item.Probe.{Probe}
-use Rattle.eb_codec.specs.Rules.{has, is_one_width, has_common, has_widths, breaks, rules, broken}
-use Rattle.eb_codec.specs.Sizes.{unit_octets, field_octets}
+use Rattle.eb_codec.specs.Rules.{has, is_one_width, has_common}
+use Rattle.eb_codec.specs.Sizes.{unit_octets}
 use Rattle.eb_codec.specs.Form.{Form, fixed, padding, Fills, probe_form, header_form, version_octet, FitsProbe}
-use Rattle.eb_codec.specs.Stream.{StreamItem, Probed, Headed, Recorded, BreaksNone, HasForm}
-use Rattle.eb_codec.specs.Reading.{width_of, header_of, probe_of, size, entry_of}
-use Rattle.eb_codec.proofs.FormLemmas.{length-Fills, Fills-fixed, fixed-is, Fills-padding, Fills-parts, Fills-front, length-padding, length-fixed}
+use Rattle.eb_codec.specs.Reading.{width_of, header_of, probe_of}
+use Rattle.eb_codec.proofs.FormLemmas.{length-Fills, Fills-fixed, fixed-is, Fills-padding, Fills-parts, Fills-front, length-padding}
 use Rattle.eb_codec.proofs.FieldLemmas.{IsBytes-drop, IsBytes-take}
 use Rattle.eb_codec.proofs.RecordLemmas.{four, four-unit}
-use Rattle.eb_codec.proofs.RuleLemmas.{HeadLegal, head_legal, version_is}
+use Rattle.eb_codec.proofs.RuleLemmas.{HeadLegal, version_is}
 
 -- the width that has a bit
 bit-width_of : (b : ℕ) → is_one_width b ≡ true → bit (width_of b) ≡ b

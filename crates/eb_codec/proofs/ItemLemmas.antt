@@ -1,27 +1,20 @@
 -- Items of any kind: whole octets that break no rule spell what they read as, and nothing else; which of the
 -- octets decide; and what hasn't broken a rule yet goes on to an item.
-use Rattle.std.proofs.Common.{◌≡◌, ℕ, zero, suc, ◌+◌, ◌-◌, ◌*◌, ◌/◌, ◌%◌, ◌^◌, ◌<◌, ◌≤◌, Bool, true, false, not, ◌&&◌, ◌||◌, cond, eqb, leb, bit_and, List, [], ◌∷◌, ◌++◌, length, take, drop, replicate, get_or, Option, Some, None, refl, sym, ap, subst, ◌∙◌, arith, inl, inr}
-use Rattle.std.specs.List.{find}
-use Rattle.std.proofs.lemmas.Bool.{or_parts, or_cases, and_from, and_parts, eq-eqb, not_from_false, both_ways, and_right, not-false, not-true, eqb-true, ne_eqb, agree_below, agree_below_at, cases_Bool, cases_lt, false≢true, cond-true, cond-false}
-use Rattle.std.proofs.lemmas.List.{take-append-drop, take_all, length-take, length-drop, length-append, length-replicate, get_or_append_left, get_or-take, take_at, append_assoc, append_cancel_left}
-use Rattle.eb_base.specs.declared.width.Width.{Width}
-use Rattle.eb_base.specs.declared.width.Width.TheVariants.{W8, W16, W32, W64}
+use Rattle.std.proofs.Common.{◌≡◌, ℕ, zero, suc, ◌<◌, ◌≤◌, false, eqb, List, [], ◌∷◌, ◌++◌, length, take, get_or, Option, Some, None, refl, sym, ap, ◌∙◌, arith, inl, inr}
+use Rattle.std.proofs.lemmas.Bool.{ne_eqb, cases_Bool, cond-true, cond-false}
+use Rattle.std.proofs.lemmas.List.{take_at, append_cancel_left}
 use Rattle.eb_base.specs.declared.width.Widths.{Widths}
-use Rattle.eb_base.specs.Width.{octets, bit, AreSets}
 use Rattle.eb_base.proofs.FieldLemmas.{IsBytes}
 use Rattle.eb_codec.specs.declared.item.Header.{Header}
-use Rattle.eb_codec.specs.declared.item.Probe.{Probe}
 use Rattle.eb_codec.specs.declared.item.Record.{Record}
-use Rattle.eb_codec.specs.declared.item.Why.{Why}
-use Rattle.eb_codec.specs.declared.item.Why.TheVariants.{Magic, Version, Response, Reserved, Width as BadWidth, Flag, Beyond, NoEnable, NoReply}
-use Rattle.eb_codec.specs.Rules.{has, is_one_width, has_common, has_widths, breaks, rules, broken}
-use Rattle.eb_codec.specs.Sizes.{unit_octets, field_octets, gap}
-use Rattle.eb_codec.specs.Form.{Form, fixed, padding, Fills, probe_form, header_form, record_form, version_octet, FitsProbe}
+use Rattle.eb_codec.specs.Rules.{has, breaks, broken}
+use Rattle.eb_codec.specs.Sizes.{unit_octets}
+use Rattle.eb_codec.specs.Form.{record_form}
 use Rattle.eb_codec.specs.Stream.{StreamItem, Probed, Headed, Recorded, BreaksNone, HasForm, Spells}
-use Rattle.eb_codec.specs.Reading.{width_of, header_of, probe_of, record_of, record_octets, body_octets, part_octets, size, entry_of}
+use Rattle.eb_codec.specs.Reading.{header_of, probe_of, record_of, record_octets, size, item_in}
 use Rattle.eb_codec.proofs.FormLemmas.{length-Fills}
-use Rattle.eb_codec.proofs.RecordLemmas.{four-unit, unit-eight, fills_record, record_fits, record_read, length-record_form}
-use Rattle.eb_codec.proofs.RuleLemmas.{HeadLegal, head_legal, BreaksAt, none_of, from_none}
+use Rattle.eb_codec.proofs.RecordLemmas.{four-unit, fills_record, record_fits, record_read, length-record_form}
+use Rattle.eb_codec.proofs.RuleLemmas.{head_legal, from_none}
 use Rattle.eb_codec.proofs.HeadLemmas.{probe_form_fills, header_form_fills, probe_read, header_read}
 
 -- ---- sizes
@@ -37,23 +30,23 @@ size-ge (Some h) o = omega (arith, four-unit h, record_octets-ge h (get_or o 2 0
 
 -- ---- what whole octets read as
 
-pub entry_has_form : (sets : Widths) (header : Option Header) (o : List ℕ) → BreaksNone sets header o → length o ≡ size header o → IsBytes o → HasForm header (entry_of header o) o
-unfolding size entry_of
-entry_has_form sets None o none len bytes =
+pub item_has_form : (sets : Widths) (header : Option Header) (o : List ℕ) → BreaksNone sets header o → length o ≡ size header o → IsBytes o → HasForm header (item_in header o) o
+unfolding size item_in
+item_has_form sets None o none len bytes =
     let long : 4 ≤ length o = omega (arith, size-ge None o) in
     let legal = head_legal sets o long none in
     elim (cases_Bool (has (get_or o 2 0) 1)) [
       | inl y ↦ rw y (probe_form_fills sets o legal y (len ∙ cond-true (has (get_or o 2 0) 1) 8 (unit_octets (header_of o)) y) bytes)
       | inr n ↦ rw n (header_form_fills sets o legal n (len ∙ cond-false (has (get_or o 2 0) 1) 8 (unit_octets (header_of o)) n) bytes)
     ]
-entry_has_form sets (Some h) o none len bytes = (record_fits h o bytes, fills_record h o len bytes)
+item_has_form sets (Some h) o none len bytes = (record_fits h o bytes, fills_record h o len bytes)
 
-pub spells_entry : (sets : Widths) (header : Option Header) (o : List ℕ) → BreaksNone sets header o → length o ≡ size header o → IsBytes o → Spells sets header (entry_of header o) o
-spells_entry sets header o none len bytes = record { form = entry_has_form sets header o none len bytes; legal = none }
+pub spells_item_in : (sets : Widths) (header : Option Header) (o : List ℕ) → BreaksNone sets header o → length o ≡ size header o → IsBytes o → Spells sets header (item_in header o) o
+spells_item_in sets header o none len bytes = record { form = item_has_form sets header o none len bytes; legal = none }
 
 -- what an item spells is as long as its first octets say, and reads as the item
-pub form_read : (header : Option Header) (x : StreamItem) (o : List ℕ) → HasForm header x o → (entry_of header o ≡ x) × (length o ≡ size header o)
-unfolding size entry_of record_of
+pub form_read : (header : Option Header) (x : StreamItem) (o : List ℕ) → HasForm header x o → (item_in header o ≡ x) × (length o ≡ size header o)
+unfolding size item_in record_of
 form_read None (Probed p) o f =
     let r = probe_read p o f.0 f.1 in
     (cond-true (has (get_or o 2 0) 1) (Probed (probe_of o)) (Headed (header_of o)) r.1 ∙ ap Probed r.0, r.2 ∙ sym (cond-true (has (get_or o 2 0) 1) 8 (unit_octets (header_of o)) r.1))
@@ -142,4 +135,4 @@ one_spelling sets header x y a b c d p q e =
     let same_len : length a ≡ length b = r.1 ∙ sym (size_front header a c (omega (arith, size-ge header a, r.1))) ∙ ap (size header) e ∙ size_front header b d (omega (arith, size-ge header b, s.1)) ∙ sym s.1 in
     let front : a ≡ b = sym (take_at a c (length a) refl) ∙ ap (take (length a)) e ∙ take_at b d (length a) (sym same_len) in
     let back : c ≡ d = append_cancel_left a c d (e ∙ ap (λ (z : List ℕ). z ++ d) (sym front)) in
-    (sym r.0 ∙ ap (entry_of header) front ∙ s.0, front, back)
+    (sym r.0 ∙ ap (item_in header) front ∙ s.0, front, back)

@@ -1,18 +1,18 @@
 -- Calls one after another, in whatever pieces.
-use Rattle.std.proofs.Common.{◌≡◌, ℕ, zero, suc, ◌+◌, ◌-◌, ◌<◌, ◌≤◌, List, [], ◌∷◌, ◌++◌, length, take, drop, map, Option, Some, None, Result, Ok, Err, refl, sym, ap, subst, ◌∙◌, arith, inl, inr, lit<}
+use Rattle.std.proofs.Common.{◌≡◌, ℕ, ◌+◌, List, [], ◌∷◌, ◌++◌, length, take, drop, map, Option, Some, None, Result, Ok, Err, refl, sym, ap, subst, ◌∙◌, arith, lit<}
 use Rattle.std.specs.Prelude.{MatchOption}
 use Rattle.std.proofs.lemmas.List.{append-nil, append_assoc, length-append, map-append, take-append-drop}
 use Rattle.eb_base.specs.declared.width.Widths.{Widths}
 use Rattle.eb_codec.specs.declared.item.Header.{Header}
 use Rattle.eb_codec.specs.declared.item.Record.{Record}
 use Rattle.eb_codec.specs.declared.item.RecordHead.{RecordHead}
-use Rattle.eb_codec.specs.declared.item.Why.{Why}
 use Rattle.eb_codec.specs.declared.event.Malformed.{Malformed}
 use Rattle.eb_codec.specs.declared.event.Step.{Step}
 use Rattle.eb_codec.specs.declared.event.Item.{Item}
 use Rattle.eb_codec.specs.declared.event.Item.TheVariants as item
-use Rattle.eb_codec.specs.Stream.{HaveWidths, StreamItem, Probed, Headed, Recorded, Spells, SpellsAll, IsPartial, AreItems, IsFirstBad, IsBadOctet, header_after, header_after_all}
-use Rattle.eb_codec.specs.Decoding.{Progress, fresh, told, Gives, Takes, Refuses, Feeds, Call, Runs, taken_by, all_taken, item_told, items_told, GivesItems, RefusesFirstBad, NoneBad}
+use Rattle.eb_codec.specs.Stream.{HaveWidths, StreamItem, Probed, Headed, Recorded, Spells, SpellsAll, IsPartial, IsFirstBad, IsBadOctet, header_after, header_after_all}
+use Rattle.eb_codec.specs.Decoding.{Progress, fresh, told, Gives, Takes, Refuses}
+use Rattle.eb_codec.specs.AnyPieces.{Call, Runs, all_taken, item_told, items_told, Reached, GivesItems, RefusesFirstBad, NoneBad}
 use Rattle.eb_codec.proofs.ItemLemmas.{size-ge}
 use Rattle.eb_codec.proofs.Completion.{is_partial}
 use Rattle.eb_codec.proofs.StreamLemmas.{spells_one, spells_append, header_after_all-append, longest, first_bad}
@@ -23,23 +23,15 @@ answer_ok step = Ok step
 abbrev pub answer_err : Malformed → Result Step Malformed
 answer_err fault = Err fault
 
--- the decoder that took these octets and gave these items
-record Reached (sets : Widths) (octets : List ℕ) (items : List StreamItem) (front : List ℕ) (p : Progress) : Type 0 where
-  sets_is : p.sets ≡ sets
-  header_is : p.header ≡ header_after_all None items
-  whole : octets ≡ front ++ p.pending
-  spelled : SpellsAll sets None items front
-  start_is : p.start ≡ length front
-  partial : IsPartial sets p.header p.pending
-
-nothing_partial : (sets : Widths) (header : Option Header) → HaveWidths sets → IsPartial sets header []
+-- nothing at all is less than an item
+pub nothing_partial : (sets : Widths) (header : Option Header) → HaveWidths sets → IsPartial sets header []
 nothing_partial sets header have = is_partial sets header [] have (λ k lt. absurd (omega arith)) (λ i. lit< tt) (omega (arith, size-ge header []))
 
-reached_fresh : (sets : Widths) → HaveWidths sets → Reached sets [] [] [] (fresh sets)
+pub reached_fresh : (sets : Widths) → HaveWidths sets → Reached sets [] [] [] (fresh sets)
 reached_fresh sets have = record { sets_is = refl; header_is = refl; whole = refl; spelled = refl; start_is = refl; partial = nothing_partial sets None have }
 
 -- one more item
-with_item : (sets : Widths) (octets : List ℕ) (items : List StreamItem) (front : List ℕ) (p : Progress) (x : StreamItem) (taken : List ℕ) (shown : Option Record) → HaveWidths sets → Reached sets octets items front p → Spells p.sets p.header x (p.pending ++ taken)
+pub with_item : (sets : Widths) (octets : List ℕ) (items : List StreamItem) (front : List ℕ) (p : Progress) (x : StreamItem) (taken : List ℕ) (shown : Option Record) → HaveWidths sets → Reached sets octets items front p → Spells p.sets p.header x (p.pending ++ taken)
     → Reached sets (octets ++ taken) (items ++ x ∷ []) (front ++ (p.pending ++ taken)) (record p { header = header_after p.header x; start = p.start + length (p.pending ++ taken); pending = []; shown = shown })
 with_item sets octets items front p x taken shown have h s =
     let s' : Spells sets (header_after_all None items) x (p.pending ++ taken) = subst (λ (g : Option Header). Spells sets g x (p.pending ++ taken)) h.header_is (subst (λ (z : Widths). Spells z p.header x (p.pending ++ taken)) h.sets_is s) in
@@ -52,7 +44,7 @@ with_item sets octets items front p x taken shown have h s =
       partial = nothing_partial sets (header_after p.header x) have;
     }
 
-with_more : (sets : Widths) (octets : List ℕ) (items : List StreamItem) (front : List ℕ) (p : Progress) (taken : List ℕ) → Reached sets octets items front p → IsPartial p.sets p.header (p.pending ++ taken)
+pub with_more : (sets : Widths) (octets : List ℕ) (items : List StreamItem) (front : List ℕ) (p : Progress) (taken : List ℕ) → Reached sets octets items front p → IsPartial p.sets p.header (p.pending ++ taken)
     → Reached sets (octets ++ taken) items front (record p { pending = p.pending ++ taken; shown = None })
 with_more sets octets items front p taken h s = record {
   sets_is = h.sets_is;
@@ -64,14 +56,14 @@ with_more sets octets items front p taken h s = record {
 }
 
 -- what a call adds
-record Adds (sets : Widths) (octets : List ℕ) (items : List StreamItem) (q : Progress) (said : List Item) : Type 0 where
-  more : List StreamItem
-  front : List ℕ
-  reached : Reached sets octets (items ++ more) front q
-  no_fault : q.fault ≡ None
-  told_is : said ≡ map told more
+pub record Adds (sets : Widths) (octets : List ℕ) (items : List StreamItem) (q : Progress) (said : List Item) : Type 0 where
+  pub more : List StreamItem
+  pub front : List ℕ
+  pub reached : Reached sets octets (items ++ more) front q
+  pub no_fault : q.fault ≡ None
+  pub told_is : said ≡ map told more
 
-adds : (sets : Widths) (octets : List ℕ) (items : List StreamItem) (front : List ℕ) (p q : Progress) (taken : List ℕ) (i : Item) → HaveWidths sets → Reached sets octets items front p → p.fault ≡ None → Gives p (p.pending ++ taken) i q → Adds sets (octets ++ taken) items q (item_told i)
+pub adds : (sets : Widths) (octets : List ℕ) (items : List StreamItem) (front : List ℕ) (p q : Progress) (taken : List ℕ) (i : Item) → HaveWidths sets → Reached sets octets items front p → p.fault ≡ None → Gives p (p.pending ++ taken) i q → Adds sets (octets ++ taken) items q (item_told i)
 adds sets octets items front p q taken item.NotYet have h n g =
     record { more = []; front = front; reached = subst (Reached sets (octets ++ taken) (items ++ []) front) (sym g.1) (subst (λ (l : List StreamItem). Reached sets (octets ++ taken) l front (record p { pending = p.pending ++ taken; shown = None })) (sym (append-nil items)) (with_more sets octets items front p taken h g.0)); no_fault = ap (λ (z : Progress). z.fault) g.1 ∙ n; told_is = refl }
 adds sets octets items front p q taken (item.Probe x) have h n g =
@@ -91,13 +83,13 @@ at_some None P Q m e h = absurd cc
 at_some (Some x) P Q m e h = let same : x ≡ m = cc in subst Q same h
 
 -- what was wrong once stays wrong
-stays_wrong : (calls : List Call) (p new : Progress) (m : Malformed) → p.fault ≡ Some m → Runs p calls new → new.fault ≡ Some m
+pub stays_wrong : (calls : List Call) (p new : Progress) (m : Malformed) → p.fault ≡ Some m → Runs p calls new → new.fault ≡ Some m
 stays_wrong [] p new m e r = ap (λ (z : Progress). z.fault) (sym r) ∙ e
 stays_wrong ((piece, answer) ∷ calls) p new m e r =
     let f = at_some p.fault _ (λ fault. (answer ≡ Err fault) × (r.0 ≡ p)) m e r.1 in
     stays_wrong calls r.0 new m (ap (λ (z : Progress). z.fault) f.1 ∙ e) r.2
 
-run : (sets : Widths) (calls : List Call) (octets : List ℕ) (items : List StreamItem) (front : List ℕ) (p new : Progress) → HaveWidths sets → Reached sets octets items front p → p.fault ≡ None → Runs p calls new → new.fault ≡ None → Adds sets (octets ++ all_taken calls) items new (items_told calls)
+pub run : (sets : Widths) (calls : List Call) (octets : List ℕ) (items : List StreamItem) (front : List ℕ) (p new : Progress) → HaveWidths sets → Reached sets octets items front p → p.fault ≡ None → Runs p calls new → new.fault ≡ None → Adds sets (octets ++ all_taken calls) items new (items_told calls)
 run sets [] octets items front p new have h n r n' =
     let one : Reached sets (octets ++ []) (items ++ []) front p = subst (λ (l : List ℕ). Reached sets l (items ++ []) front p) (sym (append-nil octets)) (subst (λ (l : List StreamItem). Reached sets octets l front p) (sym (append-nil items)) h) in
     record { more = []; front = front; reached = subst (Reached sets (octets ++ []) (items ++ []) front) r one; no_fault = n'; told_is = refl }
@@ -146,4 +138,4 @@ none_bad sets calls new p why have r n bad =
     let whole : SpellsAll sets None (a.more ++ q.0 ∷ []) (a.front ++ (new.pending ++ more)) = spells_append sets None a.more (q.0 ∷ []) a.front (new.pending ++ more) h.spelled (spells_one sets (header_after_all None a.more) q.0 (new.pending ++ more) s) in
     let split : a.front ++ (new.pending ++ more) ≡ take (p + 1) octets ++ (drop (p + 1) octets ++ more) =
     sym (append_assoc a.front new.pending more) ∙ ap (λ (l : List ℕ). l ++ more) (sym h.whole ∙ sym (take-append-drop (p + 1) octets)) ∙ append_assoc (take (p + 1) octets) (drop (p + 1) octets) more in
-    bad.ends (a.more ++ q.0 ∷ [], drop (p + 1) octets ++ more, subst (SpellsAll sets None (a.more ++ q.0 ∷ [])) split whole)
+    bad.ends (a.more ++ q.0 ∷ []) (drop (p + 1) octets ++ more) (subst (SpellsAll sets None (a.more ++ q.0 ∷ [])) split whole)

@@ -1,12 +1,11 @@
 -- Streams: one more item, the longest list of items, and the first bad octet of a stream.
-use Rattle.std.proofs.Common.{◌≡◌, ℕ, zero, suc, ◌+◌, ◌-◌, ◌<◌, ◌≤◌, List, [], ◌∷◌, ◌++◌, length, take, drop, Option, Some, None, refl, sym, ap, subst, ◌∙◌, arith, inl, inr}
+use Rattle.std.proofs.Common.{◌≡◌, ℕ, ◌+◌, ◌-◌, ◌≤◌, List, [], ◌∷◌, ◌++◌, length, take, drop, Option, refl, sym, ap, subst, ◌∙◌, arith, inl, inr}
 use Rattle.std.proofs.lemmas.Bool.{cases_lt}
 use Rattle.std.proofs.lemmas.List.{append-nil, append_assoc, length-take, length-append, take-append-drop, take-take, take_at, take-append-le}
 use Rattle.eb_base.specs.declared.width.Widths.{Widths}
 use Rattle.eb_codec.specs.declared.item.Header.{Header}
 use Rattle.eb_codec.specs.declared.item.Why.{Why}
-use Rattle.eb_codec.specs.Rules.{broken}
-use Rattle.eb_codec.specs.Stream.{StreamItem, Spells, SpellsAll, BeginsStream, IsFirstBad, IsBadOctet, IsPartial, AreItems, header_after, header_after_all}
+use Rattle.eb_codec.specs.Stream.{StreamItem, Spells, SpellsAll, IsFirstBad, IsBadOctet, IsPartial, header_after, header_after_all}
 use Rattle.eb_codec.proofs.ItemLemmas.{one_spelling}
 use Rattle.eb_codec.proofs.RoomLemmas.{take-append-ge}
 
@@ -88,7 +87,7 @@ first_bad sets header items a o p why s bad =
     let next : length a + p + 1 ≡ length a + (p + 1) = omega arith in
     record {
       inside = omega (arith, length-append a o);
-      before = (items ++ q.0 ∷ [], q.1 ∷ q.2, subst (SpellsAll sets header (items ++ q.0 ∷ [])) begun' begun);
-      ends = λ b. no_stream sets header items b.0 a o b.1 p why s bad (subst (λ (l : List ℕ). SpellsAll sets header b.0 (l ++ b.1)) (ap (λ (n : ℕ). take n (a ++ o)) next ∙ cut (p + 1)) b.2);
+      before = (items ++ q.0 ∷ [], q.1 ∷ q.2, subst (SpellsAll sets header (items ++ q.0 ∷ [])) begun' begun, q.4);
+      ends = λ others more t. no_stream sets header items others a o more p why s bad (subst (λ (l : List ℕ). SpellsAll sets header others (l ++ more)) (ap (λ (n : ℕ). take n (a ++ o)) next ∙ cut (p + 1)) t);
       broken_rule = (items, a, o, p, refl, s, refl, bad.rule);
     }

@@ -1,10 +1,9 @@
-ghost use Rattle.std.specs.Prelude.{◌≡◌, ◌<◌, ◌≤◌, ◌+◌, ◌-◌, ◌*◌, ◌^◌, ◌++◌, length, replicate, All, OnOk, OnErr, vec_len, vec_capacity};
+ghost use Rattle.std.specs.Prelude.{◌≡◌, ◌<◌, ◌≤◌, ◌+◌, ◌-◌, ◌*◌, ◌^◌, ◌++◌, length, flat_map, replicate, All, OnOk, OnErr, vec_len, vec_capacity};
 ghost use Rattle.eb_base.specs.Width.{octets as width_octets};
 ghost use Rattle.eb_base.specs.Field.{octets_of};
 ghost use Rattle.eb_codec.specs.Sizes.{field_octets, gap};
 ghost use Rattle.eb_codec.specs.Form.{zeroed, field, part, header_form, probe_form, record_form, FitsProbe, FitsRecord, KeepsRules};
 ghost use Rattle.eb_codec.specs.Reading.{part_octets, record_octets};
-ghost use Rattle.std.specs.List.{flat_map};
 
 use crate::item::{Header, Probe, Record};
 use crate::sizes::{field_len, record_len, trailing, unit_len};
@@ -119,7 +118,15 @@ fn put_record(out: &mut Vec<u8>, header: Header, item: &Record)
     put_zeros(out, trailing(header, head.writes, head.reads));
 }
 
-/// Appends the spelling of a record.
+/// Appends the octets of a record behind this header, with zero padding.
+///
+/// They are its head of 4 octets, then, in fields as wide as the widest of an address, a value and 2 octets, the base address
+/// of the writes and the values, and the base address of the reply and the addresses to read, each part only where it has
+/// numbers. Numbers stand at the end of their fields, the highest octet first. The whole is padded to a multiple of 4 octets,
+/// of 8 where a field has 8, and has 4,104 at most.
+///
+/// Its condition is that the record fits the header's widths and breaks no rule. Room for all octets is taken first: after
+/// `NoMemory` nothing has been appended.
 pub fn encode_record(header: &Header, item: &Record, out: &mut Vec<u8>) -> Result<(), NoMemory>
     requires fits { FitsRecord header.now item.now }
     requires legal { KeepsRules header.now item.now.head }
@@ -134,7 +141,11 @@ pub fn encode_record(header: &Header, item: &Record, out: &mut Vec<u8>) -> Resul
     Ok(())
 }
 
-/// Appends the spelling of a header.
+/// Appends the octets of a header, with zero padding: the magic, 0x4E 0x6F; version 1 in the high half of an octet whose bit
+/// 0x04 says that no reply is wanted; the bits of the address width and the port width in the halves of the next. They are 4
+/// octets, and 8 where one of the widths is 64 bits.
+///
+/// Room for all of them is taken first: after `NoMemory` nothing has been appended.
 pub fn encode_header(header: &Header, out: &mut Vec<u8>) -> Result<(), NoMemory>
     ensures ok { OnOk result (out.new.items ≡ out.old.items ++ zeroed (header_form header.now)) }
     ensures err { OnErr result (out.new.items ≡ out.old.items) }
@@ -157,10 +168,13 @@ pub fn encode_header(header: &Header, out: &mut Vec<u8>) -> Result<(), NoMemory>
     Ok(())
 }
 
-/// Appends the spelling of a probe.
+/// Appends the 8 octets of a probe: the magic, version 1 with the probe flag 0x01, the two sets of widths in the halves of an
+/// octet, and the id, its highest octet first. A slave answers it where it has a width of each set.
+///
+/// Room for all of them is taken first: after `NoMemory` nothing has been appended.
 #[tactic(auto, unfolding(eb_base::specs::Field::octets_of))]
 pub fn encode_probe(probe: &Probe, out: &mut Vec<u8>) -> Result<(), NoMemory>
-    requires { FitsProbe probe.now }
+    requires fits { FitsProbe probe.now }
     ensures ok { OnOk result (out.new.items ≡ out.old.items ++ zeroed (probe_form probe.now)) }
     ensures err { OnErr result (out.new.items ≡ out.old.items) }
 {

@@ -1,4 +1,7 @@
-//! The grammar of an Etherbone stream, its encoders and a decoder that takes it in any pieces.
+//! The grammar of an Etherbone 1.0 stream, its encoders, and a decoder that takes it in any pieces.
+//!
+//! A stream is any number of probes, then at most one header, then records. All numbers in it are big-endian. The decoder
+//! gives one item at a time, and names the first bad octet and the rule that it breaks.
 #![tactic(auto)]
 
 pub mod decoder;

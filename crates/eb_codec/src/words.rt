@@ -3,7 +3,7 @@ ghost use Rattle.std.specs.Prelude.{◌≡◌, ◌++◌, ◌∷◌, ◌<◌, [],
 use eb_base::NoMemory;
 use std::marker::Model;
 
-/// A list of numbers.
+/// A list of 64-bit numbers, the values or the addresses of a record. Contracts see the list.
 #[derive(Drop, Debug)]
 pub struct Words {
     items: Vec<u64>,
@@ -18,29 +18,29 @@ impl Model for Words {
 }
 
 impl Words {
-    /// The list of these.
+    /// The list of these. It takes no memory.
     pub fn of(items: Vec<u64>) -> Self
-        ensures { result ≡ items.items }
+        ensures value { result ≡ items.items }
     {
         Words { items }
     }
 
     /// How many there are.
     pub fn len(&self) -> usize
-        ensures { result ≡ length self.now }
+        ensures value { result ≡ length self.now }
     {
         self.items.len()
     }
 
-    /// The number at a place.
+    /// The number at a place, from 0.
     pub fn get(&self, i: usize) -> &u64
-        requires { i < length self.now }
-        ensures { result.now ≡ slice_index self.now i }
+        requires there { i < length self.now }
+        ensures value { result.now ≡ slice_index self.now i }
     {
         &self.items[i]
     }
 
-    /// Adds one at the end.
+    /// Adds one at the end. After `NoMemory` the list is as it was.
     pub fn push(&mut self, item: u64) -> Result<(), NoMemory>
         ensures ok { OnOk result (self.new ≡ self.old ++ item ∷ []) }
         ensures err { OnErr result (self.new ≡ self.old) }
