@@ -17,3 +17,6 @@ mod take;
 
 pub use first_session::FirstSession;
 pub use session::{End, Fed, Session};
+
+#[cfg(test)]
+mod tests;

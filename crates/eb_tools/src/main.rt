@@ -1,0 +1,40 @@
+//! The program `eb`: the words of the command line, the real files and the standard streams, and the status.
+#![tactic(auto)]
+
+use eb_io::{RealWorld, StdSink};
+use eb_run::{Family, Status, family_of, run_plain, tell};
+use std::alloc::Global;
+use std::env;
+use std::io::{self, ErrorKind};
+use std::process::ExitCode;
+
+// The words behind the program's name. One that isn't UTF-8 is none of a command.
+fn words_of(rt: HostRuntime, alloc: Global) -> Result<Vec<String>, Status> {
+    match env::args(&rt) {
+        Err(fault) if fault.kind() == ErrorKind::OutOfMemory => Err(Status::NO_MEMORY),
+        Err(_) => Err(Status::USAGE),
+        Ok(args) => match args.skip(1).collect::<Vec<String>>(alloc) {
+            Ok(words) => Ok(words),
+            Err(_) => Err(Status::NO_MEMORY),
+        },
+    }
+}
+
+fn main(rt: HostRuntime) -> ExitCode {
+    let alloc = rt.alloc();
+    let mut out = StdSink::output(rt);
+    let mut err = StdSink::error(rt);
+    let mut world = RealWorld::new(rt, alloc);
+    let status = match words_of(rt, alloc) {
+        Ok(words) => match family_of(&words) {
+            Family::Plain | Family::Client | Family::Shared => {
+                run_plain(alloc, &words, &mut world, &mut out, &mut err)
+            }
+        },
+        Err(status) => {
+            tell(status, &mut err);
+            status
+        }
+    };
+    ExitCode::from(status.0)
+}

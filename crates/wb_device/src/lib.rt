@@ -1,0 +1,13 @@
+//! Devices of a Wishbone bus of 32 data bits: RAM, ROM, registers and a queue, by the device function.
+#![tactic(auto)]
+
+mod device;
+mod fifo;
+mod lanes;
+mod memory;
+mod registers;
+
+pub use device::Device;
+
+#[cfg(test)]
+mod tests;
