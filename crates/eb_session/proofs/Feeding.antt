@@ -20,7 +20,7 @@ use Rattle.wb_signals.specs.declared.answer.Answer.{Answer}
 use Rattle.eb_session.specs.declared.session.End.{End}
 use Rattle.eb_session.specs.declared.session.End.TheVariants as end
 use Rattle.eb_session.specs.declared.session.Fed.{Fed}
-use Rattle.eb_session.specs.Shown.{record_in}
+use Rattle.eb_codec.specs.Decoding.{record_in}
 use Rattle.eb_session.specs.Operations.{record_ops, ends_cycle}
 use Rattle.eb_session.specs.Replies.{Slave, probe_reply, header_reply, record_reply, item_reply}
 use Rattle.eb_session.specs.Configuration.{register}
@@ -29,7 +29,7 @@ use Rattle.eb_codec.specs.Form.{Fills, FitsRecord, KeepsRules, record_form}
 use Rattle.eb_codec.specs.Stream.{BreaksNone}
 use Rattle.eb_session.proofs.Legal.{keeps}
 use Rattle.eb_session.specs.Keeping.{Kept, MasterCycles, Added, Ran, Closed, WasCut, Answers, Feeds, Asks, is_some, made_with, cycles_of}
-use Rattle.eb_session.specs.Shown.{Shows}
+use Rattle.eb_session.specs.Shown.{ShowsRecord}
 
 if_none : {A : Type 0} (P : Type 0) (Q : A → Type 0) (o : Option A) → o ≡ None → P → MatchOption o P Q
 if_none P Q o e p = subst (λ q. MatchOption q P Q) (sym e) p
@@ -120,7 +120,7 @@ record_ran m k piece reply n head h new before after answers errors opened le t 
     )
 
 -- what the decoder shows, where the session knows the header
-pub shows : (old new : Progress) (piece : List ℕ) (n : ℕ) (h : Header) (head : RecordHead) → old.header ≡ Some h → Takes old piece (record { taken = n; item = item.Record head }) new → Shows new h head
+pub shows : (old new : Progress) (piece : List ℕ) (n : ℕ) (h : Header) (head : RecordHead) → old.header ≡ Some h → Takes old piece (record { taken = n; item = item.Record head }) new → ShowsRecord new h head
 shows old new piece n h head hd t =
     let r : Record = t.gives.0 in
     let octets' : List ℕ = old.pending ++ take n piece in

@@ -104,7 +104,7 @@ no_bad sets items octets a rest is s q p why bad =
     let whole : SpellsAll sets None (items ++ q.0 ∷ []) (a ++ (rest ++ more)) = spells_append sets None items (q.0 ∷ []) a (rest ++ more) s (spells_one sets (header_after_all None items) q.0 (rest ++ more) q.3) in
     let split : a ++ (rest ++ more) ≡ take (p + 1) octets ++ (drop (p + 1) octets ++ more) =
     sym (append_assoc a rest more) ∙ ap (λ (l : List ℕ). l ++ more) (sym is ∙ sym (take-append-drop (p + 1) octets)) ∙ append_assoc (take (p + 1) octets) (drop (p + 1) octets) more in
-    bad.ends (items ++ q.0 ∷ [], drop (p + 1) octets ++ more, subst (SpellsAll sets None (items ++ q.0 ∷ [])) split whole)
+    bad.ends (items ++ q.0 ∷ []) (drop (p + 1) octets ++ more) (subst (SpellsAll sets None (items ++ q.0 ∷ [])) split whole)
 
 pub runs_all : RunsAll
 runs_all m first now octets joined items kept entries on =

@@ -3,7 +3,7 @@ use Rattle.std.specs.Prelude.{◌≡◌, ◌≢◌, ℕ, ◌+◌, ◌<◌, ◌�
 use Rattle.eb_codec.specs.declared.item.Header.{Header}
 use Rattle.eb_codec.specs.declared.item.Record.{Record}
 use Rattle.eb_codec.specs.declared.item.RecordHead.{RecordHead}
-use Rattle.eb_codec.specs.Decoding.{Progress, fresh, Refuses}
+use Rattle.eb_codec.specs.Decoding.{Progress, fresh, after_item, Refuses}
 use Rattle.eb_codec.specs.Stream.{StreamItem, Probed, Headed, Recorded, header_after, Spells, IsPartial}
 use Rattle.eb_codec.specs.Form.{FitsRecord, KeepsRules}
 use Rattle.wb_signals.specs.Request.{Request}
@@ -63,20 +63,10 @@ pub record WasCut (m : ℕ) (old new : MasterCycles) : Type 0 where
   pub made : new.made ≡ cut_with m old.made old.opened
   pub opened : new.opened ≡ []
 
--- what a decoder shows after an item
-abbrev pub shown_of : StreamItem → Option Record
-shown_of (Probed p) = None
-shown_of (Headed h) = None
-shown_of (Recorded r) = Some r
-
--- the decoder after a whole item of these octets
-abbrev pub moved : Progress → List ℕ → StreamItem → Progress
-moved old octets x = record old { header = header_after old.header x; start = old.start + length octets; pending = []; shown = shown_of x }
-
 -- An item of these octets ended and ran: the master gave its operations these answers.
 pub record Ran (m : ℕ) (old new : Kept) (octets : List ℕ) (before after : MasterCycles) (x : StreamItem) (answers : List Answer) : Type 0 where
   pub spelled : Spells old.progress.sets old.progress.header x octets
-  pub progress : new.progress ≡ moved old.progress octets x
+  pub progress : new.progress ≡ after_item old.progress x octets
   pub answered : length answers ≡ length (item_ops old.slave.bus old.progress.header x)
   pub added : Added m before after (paired (item_ops old.slave.bus old.progress.header x) answers) (item_ends x)
   pub errors : new.errors ≡ register old.errors answers

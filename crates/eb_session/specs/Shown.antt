@@ -1,19 +1,13 @@
 -- The record that a decoder shows, and the answers to its operations.
-use Rattle.std.specs.Prelude.{◌≡◌, List, [], ◌∷◌, Option, Some, None}
+use Rattle.std.specs.Prelude.{◌≡◌, List, [], ◌∷◌, Some}
 use Rattle.eb_codec.specs.declared.item.Header.{Header}
-use Rattle.eb_codec.specs.declared.item.Record.{Record}
 use Rattle.eb_codec.specs.declared.item.RecordHead.{RecordHead}
-use Rattle.eb_codec.specs.Decoding.{Progress}
+use Rattle.eb_codec.specs.Decoding.{Progress, record_in}
 use Rattle.eb_codec.specs.Form.{FitsRecord, KeepsRules}
 use Rattle.wb_signals.specs.declared.answer.Answer.{Answer}
 
--- the record that is shown, an empty one where none is
-abbrev pub record_in : Option Record → Record
-record_in (Some r) = r
-record_in None = record { head = record { flags = 0; enable = 0; writes = 0; reads = 0 }; write_base = 0; values = []; return_base = 0; addresses = [] }
-
 -- The decoder shows a whole record of this header, whose first octets are these.
-pub record Shows (progress : Progress) (h : Header) (head : RecordHead) : Type 0 where
+pub record ShowsRecord (progress : Progress) (h : Header) (head : RecordHead) : Type 0 where
   pub shown : progress.shown ≡ Some (record_in progress.shown)
   pub head_is : (record_in progress.shown).head ≡ head
   pub fits : FitsRecord h (record_in progress.shown)

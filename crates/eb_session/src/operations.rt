@@ -4,7 +4,8 @@ ghost use Rattle.eb_codec.specs.Rules.{has};
 ghost use Rattle.wb_signals.specs.Request.{placed};
 ghost use Rattle.wb_signals.specs.Cycles.{FitsBus, AllFitBus, paired, opened_after};
 ghost use Rattle.eb_session.specs.Operations.{write_at, read_at, record_ops, upto};
-ghost use Rattle.eb_session.specs.Shown.{Shows, record_in, answered_to};
+ghost use Rattle.eb_session.specs.Shown.{ShowsRecord, answered_to};
+ghost use Rattle.eb_codec.specs.Decoding.{record_in};
 ghost use Rattle.eb_session.specs.Keeping.{Asks, is_some, made_with};
 
 use crate::record_shown::{address, value, write_base};
@@ -88,7 +89,7 @@ fn write_op(
     base: u64,
     i: usize,
 ) -> Op
-    requires shows { Shows decoder.now header head }
+    requires shows { ShowsRecord decoder.now header head }
     requires narrow { octets header.port ≤ octets bus }
     requires base { base ≡ (record_in decoder.now.shown).write_base }
     requires inside { i < head.writes }
@@ -107,7 +108,7 @@ fn write_op(
 }
 
 fn read_op(bus: Width, header: Header, decoder: &Decoder, head: RecordHead, i: usize) -> Op
-    requires shows { Shows decoder.now header head }
+    requires shows { ShowsRecord decoder.now header head }
     requires narrow { octets header.port ≤ octets bus }
     requires inside { i < head.reads }
     ensures value { result ≡ read_at bus header (record_in decoder.now.shown) i }
@@ -144,7 +145,7 @@ fn put_writes(
     count: usize,
     ops: &mut Vec<Op>,
 )
-    requires shows { Shows decoder.now header head }
+    requires shows { ShowsRecord decoder.now header head }
     requires narrow { octets header.port ≤ octets bus }
     requires count { count ≤ head.writes }
     requires room { vec_len ops.old + count ≤ vec_capacity ops.old }
@@ -169,7 +170,7 @@ fn put_reads(
     count: usize,
     ops: &mut Vec<Op>,
 )
-    requires shows { Shows decoder.now header head }
+    requires shows { ShowsRecord decoder.now header head }
     requires narrow { octets header.port ≤ octets bus }
     requires count { count ≤ head.reads }
     requires room { vec_len ops.old + count ≤ vec_capacity ops.old }
@@ -186,7 +187,7 @@ fn put_reads(
 
 /// Puts the operations of the record that was just given in place of those that there are.
 pub fn put_ops(bus: Width, header: Header, decoder: &Decoder, head: RecordHead, ops: &mut Vec<Op>)
-    requires shows { Shows decoder.now header head }
+    requires shows { ShowsRecord decoder.now header head }
     requires narrow { octets header.port ≤ octets bus }
     requires room { 510 ≤ vec_capacity ops.old }
     ensures items { ops.new.items ≡ record_ops bus header (record_in decoder.now.shown) }

@@ -1,6 +1,7 @@
 ghost use Rattle.std.specs.Prelude.{◌≡◌, ◌<◌, ◌^◌, slice_index};
 ghost use Rattle.eb_base.specs.Width.{octets};
-ghost use Rattle.eb_session.specs.Shown.{record_in, Shows};
+ghost use Rattle.eb_session.specs.Shown.{ShowsRecord};
+ghost use Rattle.eb_codec.specs.Decoding.{record_in};
 
 use eb_codec::{Decoder, Header, RecordHead};
 
@@ -8,7 +9,7 @@ use eb_codec::{Decoder, Header, RecordHead};
 
 /// The base address of its writes.
 pub fn write_base(decoder: &Decoder, header: Header, head: RecordHead) -> u64
-    requires shows { Shows decoder.now header head }
+    requires shows { ShowsRecord decoder.now header head }
     ensures value { result ≡ (record_in decoder.now.shown).write_base }
 {
     let _fits = header.no_reply;
@@ -18,7 +19,7 @@ pub fn write_base(decoder: &Decoder, header: Header, head: RecordHead) -> u64
 
 /// The base address of its reply.
 pub fn return_base(decoder: &Decoder, header: Header, head: RecordHead) -> u64
-    requires shows { Shows decoder.now header head }
+    requires shows { ShowsRecord decoder.now header head }
     ensures value { result ≡ (record_in decoder.now.shown).return_base }
     ensures most { result < 256 ^ octets header.address }
 {
@@ -29,7 +30,7 @@ pub fn return_base(decoder: &Decoder, header: Header, head: RecordHead) -> u64
 
 /// A value that it writes.
 pub fn value(decoder: &Decoder, header: Header, head: RecordHead, i: usize) -> u64
-    requires shows { Shows decoder.now header head }
+    requires shows { ShowsRecord decoder.now header head }
     requires inside { i < head.writes }
     ensures value { result ≡ slice_index (record_in decoder.now.shown).values i }
     ensures most { result < 256 ^ octets header.port }
@@ -40,7 +41,7 @@ pub fn value(decoder: &Decoder, header: Header, head: RecordHead, i: usize) -> u
 
 /// An address that it reads.
 pub fn address(decoder: &Decoder, header: Header, head: RecordHead, i: usize) -> u64
-    requires shows { Shows decoder.now header head }
+    requires shows { ShowsRecord decoder.now header head }
     requires inside { i < head.reads }
     ensures value { result ≡ slice_index (record_in decoder.now.shown).addresses i }
 {

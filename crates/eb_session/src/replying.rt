@@ -4,7 +4,8 @@ ghost use Rattle.eb_base.specs.Width.{octets};
 ghost use Rattle.eb_codec.specs.Form.{FitsProbe, zeroed, field};
 ghost use Rattle.eb_codec.specs.Sizes.{field_octets};
 ghost use Rattle.eb_session.specs.Operations.{bus_writes, bus_reads, upto};
-ghost use Rattle.eb_session.specs.Shown.{record_in, Shows};
+ghost use Rattle.eb_session.specs.Shown.{ShowsRecord};
+ghost use Rattle.eb_codec.specs.Decoding.{record_in};
 ghost use Rattle.eb_session.specs.Replies.{slave, answer_word, read_word, record_reply, probe_reply, header_reply, reply_flags};
 
 use crate::configuration::config;
@@ -61,7 +62,7 @@ fn read<M: Master>(
     first: usize,
     i: usize,
 ) -> u64
-    requires shows { Shows decoder.now header head }
+    requires shows { ShowsRecord decoder.now header head }
     requires narrow { octets header.port ≤ octets bus }
     requires inside { i < head.reads }
     requires first { first ≡ bus_writes (record_in decoder.now.shown) }
@@ -90,7 +91,7 @@ fn put_words<M: Master>(
     first: usize,
     reply: &mut Vec<u8>,
 )
-    requires shows { Shows decoder.now header head }
+    requires shows { ShowsRecord decoder.now header head }
     requires narrow { octets header.port ≤ octets bus }
     requires first { first ≡ bus_writes (record_in decoder.now.shown) }
     requires answers { bus_writes (record_in decoder.now.shown) + bus_reads (record_in decoder.now.shown) ≤ length (M.answered master.now) }
@@ -121,7 +122,7 @@ pub fn put_reply<M: Master>(
     first: usize,
     reply: &mut Vec<u8>,
 )
-    requires shows { Shows decoder.now header head }
+    requires shows { ShowsRecord decoder.now header head }
     requires narrow { octets header.port ≤ octets bus }
     requires first { first ≡ bus_writes (record_in decoder.now.shown) }
     requires answers { bus_writes (record_in decoder.now.shown) + bus_reads (record_in decoder.now.shown) ≤ length (M.answered master.now) }

@@ -4,7 +4,8 @@ ghost use Rattle.wb_signals.specs.Cycles.{paired};
 ghost use Rattle.eb_session.specs.Operations.{record_ops, ends_cycle};
 ghost use Rattle.eb_session.specs.Configuration.{register};
 ghost use Rattle.eb_session.specs.Replies.{slave, record_reply};
-ghost use Rattle.eb_session.specs.Shown.{Shows, record_in, answered_to};
+ghost use Rattle.eb_session.specs.Shown.{ShowsRecord, answered_to};
+ghost use Rattle.eb_codec.specs.Decoding.{record_in};
 ghost use Rattle.eb_session.specs.Keeping.{Added, Asks, WasCut, cycles_of, is_some};
 
 use crate::configuration::shifted;
@@ -57,7 +58,7 @@ pub fn run_record<M: Master>(
     opened: bool,
     reply: &mut Vec<u8>,
 ) -> Result<State, NoMemory>
-    requires shows { Shows decoder.now header head }
+    requires shows { ShowsRecord decoder.now header head }
     requires narrow { octets header.port ≤ octets bus }
     requires width { M.bus master.old ≡ bus }
     requires opened { opened ≡ is_some (M.opened master.old) }

@@ -1,7 +1,7 @@
 use Rattle.std.proofs.Common.{◌≡◌, ◌≤◌, ◌+◌, ◌++◌, vec_len, vec_capacity, ℕ, List}
 use Rattle.wb_signals.specs.Cycles.{AllFitBus}
 use Rattle.eb_session.specs.Operations.{write_at, upto}
-use Rattle.eb_session.specs.Shown.{record_in}
+use Rattle.eb_codec.specs.Decoding.{record_in}
 use Rattle.eb_session.proofs.operations.put_writes.Given as goal
 
 abbrev pub invariant-loop-i : goal.invariant-loop-i

@@ -1,6 +1,6 @@
 use Rattle.std.proofs.Common.{◌≡◌, ℕ, arith, ap, ◌∙◌, ◌++◌}
 use Rattle.eb_codec.specs.Form.{zeroed, field}
-use Rattle.eb_session.specs.Shown.{record_in}
+use Rattle.eb_codec.specs.Decoding.{record_in}
 use Rattle.eb_session.specs.Replies.{slave}
 use Rattle.eb_session.proofs.Asked.{words_reply}
 use Rattle.eb_session.proofs.replying.put_reply.Goals as goal

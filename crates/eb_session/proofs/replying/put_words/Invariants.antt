@@ -2,7 +2,7 @@ use Rattle.std.proofs.Common.{◌≡◌, ◌≤◌, ◌+◌, ◌*◌, ◌++◌, 
 use Rattle.std.specs.List.{flat_map}
 use Rattle.eb_codec.specs.Sizes.{field_octets}
 use Rattle.eb_codec.specs.Form.{zeroed, field}
-use Rattle.eb_session.specs.Shown.{record_in}
+use Rattle.eb_codec.specs.Decoding.{record_in}
 use Rattle.eb_session.specs.Operations.{upto}
 use Rattle.eb_session.specs.Replies.{slave, read_word}
 use Rattle.eb_session.proofs.replying.put_words.Given as goal

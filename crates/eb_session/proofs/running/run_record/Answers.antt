@@ -2,7 +2,7 @@ use Rattle.std.proofs.Common.{◌≡◌, ℕ, List, ap, ◌∙◌, ◌++◌, len
 use Rattle.wb_signals.specs.declared.answer.Answer.{Answer}
 use Rattle.wb_signals.specs.Request.{Request}
 use Rattle.wb_signals.specs.Cycles.{paired, opened_after}
-use Rattle.eb_session.specs.Shown.{record_in}
+use Rattle.eb_codec.specs.Decoding.{record_in}
 use Rattle.eb_session.specs.Operations.{record_ops}
 use Rattle.eb_session.specs.Replies.{slave, record_reply}
 use Rattle.eb_session.specs.Configuration.{register}

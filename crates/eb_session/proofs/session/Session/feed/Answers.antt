@@ -8,7 +8,7 @@ use Rattle.eb_codec.specs.Decoding.{Progress, Takes}
 use Rattle.eb_session.specs.Inside.{kept_in}
 use Rattle.eb_session.specs.declared.session.End.{End}
 use Rattle.eb_session.specs.Replies.{slave, probe_reply, header_reply}
-use Rattle.eb_session.specs.Shown.{record_in}
+use Rattle.eb_codec.specs.Decoding.{record_in}
 use Rattle.eb_session.specs.Operations.{record_ops}
 use Rattle.eb_session.specs.Shown.{answered_to}
 use Rattle.eb_session.specs.Keeping.{Kept, cycles_of}
