@@ -112,7 +112,7 @@ gives_items sets calls new have r n =
     let a = run sets calls [] [] [] (fresh sets) new have (reached_fresh sets have) refl r n in
     let h = a.reached in
     let partial : IsPartial sets (header_after_all None a.more) new.pending = subst (λ (g : Option Header). IsPartial sets g new.pending) h.header_is h.partial in
-    (a.more, a.told_is, record { front = (a.front, h.whole, h.spelled); longest = λ others x y e s. longest sets None a.more others a.front new.pending x y (sym h.whole ∙ e) h.spelled partial s })
+    (a.more, a.told_is, record { front = (a.front, h.whole, h.spelled); longest = λ others x y e s. longest sets None a.more others a.front new.pending x y (sym h.whole ∙ e) h.spelled partial s }, partial)
 
 pub refuses_first_bad : RefusesFirstBad
 refuses_first_bad sets calls mid new piece fault have r n f =

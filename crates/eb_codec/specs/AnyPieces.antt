@@ -50,10 +50,10 @@ pub record Reached (sets : Widths) (octets : List ℕ) (items : List StreamItem)
   pub start_is : p.start ≡ length front
   pub partial : IsPartial sets p.header p.pending
 
--- The items that were given are those of the octets that were taken, and what pends is what follows them.
+-- The items that were given are those of the octets that were taken, and what pends is what follows them: less than an item.
 abbrev pub GivesItems : Type 0
 GivesItems = (sets : Widths) (calls : List Call) (new : Progress) → HaveWidths sets → Runs (fresh sets) calls new → new.fault ≡ None
-    → (items : List StreamItem) × (items_told calls ≡ map told items) × AreItems sets None (all_taken calls) items new.pending
+    → (items : List StreamItem) × (items_told calls ≡ map told items) × AreItems sets None (all_taken calls) items new.pending × IsPartial sets (header_after_all None items) new.pending
 
 -- A refusal is at the first bad octet of the stream.
 abbrev pub RefusesFirstBad : Type 0
