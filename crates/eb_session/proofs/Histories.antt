@@ -1,4 +1,4 @@
--- Operations one after another, and the histories of their cycles.
+-- The histories of whole cycles.
 use Rattle.std.proofs.Common.{◌≡◌, false, List, [], ◌∷◌, ◌++◌, length, map, refl, sym, ap, ◌∙◌, subst, arith}
 use Rattle.std.specs.List.{All}
 use Rattle.wb_signals.specs.Request.{Request}
@@ -6,26 +6,11 @@ use Rattle.wb_signals.specs.Content.{Content}
 use Rattle.wb_signals.specs.Wiring.{Wiring, step}
 use Rattle.wb_signals.specs.History.{Pair, Entry, requests_of, answers_of, cycle, contents_after, IsLegal, after}
 use Rattle.wb_signals.specs.declared.answer.Answer.{Answer}
+use Rattle.wb_signals.proofs.CycleLemmas.{requests_of-cycle}
 use Rattle.eb_session.proofs.Folds.{All-with}
 use Rattle.eb_session.specs.Cycles.{Group, group, marked, given}
 
 module _ (w : Wiring) where
-  pub contents_after-append : (c : List Content) (rs ss : List Request) → contents_after w c (rs ++ ss) ≡ contents_after w (contents_after w c rs) ss
-  contents_after-append c [] ss = refl
-  contents_after-append c (r ∷ rs) ss = contents_after-append (step w c r).contents rs ss
-
-  pub cycle-append : (c : List Content) (rs ss : List Request) → cycle w c (rs ++ ss) ≡ cycle w c rs ++ cycle w (contents_after w c rs) ss
-  cycle-append c [] ss = refl
-  cycle-append c (r ∷ rs) ss = ap (λ (l : List Pair). record { request = r; answer = (step w c r).answer } ∷ l) (cycle-append (step w c r).contents rs ss)
-
-  pub requests-cycle : (c : List Content) (rs : List Request) → requests_of (cycle w c rs) ≡ rs
-  requests-cycle c [] = refl
-  requests-cycle c (r ∷ rs) = ap (λ (l : List Request). r ∷ l) (requests-cycle (step w c r).contents rs)
-
-  pub length-answers : (c : List Content) (rs : List Request) → length (answers_of (cycle w c rs)) ≡ length rs
-  length-answers c [] = refl
-  length-answers c (r ∷ rs) = let e = length-answers (step w c r).contents rs in omega (arith, e)
-
   -- The entry of a whole cycle of master 0, none without operations.
   abbrev pub entry_of : List Content → List Request → List Entry
   entry_of c [] = []
@@ -33,12 +18,12 @@ module _ (w : Wiring) where
 
   pub entry_fit : (c : List Content) (rs : List Request) → map marked (entry_of c rs) ≡ group false rs
   entry_fit c [] = refl
-  entry_fit c (r ∷ rs) = ap (λ (l : List Request). record { cut = false; ops = l } ∷ []) (requests-cycle c (r ∷ rs))
+  entry_fit c (r ∷ rs) = ap (λ (l : List Request). record { cut = false; ops = l } ∷ []) (requests_of-cycle w c (r ∷ rs))
 
   pub entry_legal : (c : List Content) (rs : List Request) (es : List Entry) → IsLegal w (contents_after w c rs) es → IsLegal w c (entry_of c rs ++ es)
   entry_legal c [] es legal = legal
   entry_legal c (r ∷ rs) es legal =
-      let is : requests_of (cycle w c (r ∷ rs)) ≡ r ∷ rs = requests-cycle c (r ∷ rs) in (
+      let is : requests_of (cycle w c (r ∷ rs)) ≡ r ∷ rs = requests_of-cycle w c (r ∷ rs) in (
         (λ none. cc none),
         ap (cycle w c) (sym is),
         subst (λ (l : List Request). IsLegal w (contents_after w c l) es) (sym is) legal,
@@ -46,7 +31,7 @@ module _ (w : Wiring) where
 
   pub entry_after : (c : List Content) (rs : List Request) (es : List Entry) → after w c (entry_of c rs ++ es) ≡ after w (contents_after w c rs) es
   entry_after c [] es = refl
-  entry_after c (r ∷ rs) es = ap (λ (l : List Request). after w (contents_after w c l) es) (requests-cycle c (r ∷ rs))
+  entry_after c (r ∷ rs) es = ap (λ (l : List Request). after w (contents_after w c l) es) (requests_of-cycle w c (r ∷ rs))
 
   pub entry_given : (c : List Content) (rs : List Request) (es : List Entry) → given (entry_of c rs ++ es) ≡ answers_of (cycle w c rs) ++ given es
   entry_given c [] es = refl

@@ -1,7 +1,7 @@
 -- The step of a bus whose one device is a RAM, for accesses of whole words.
 use Rattle.std.proofs.Common.{◌≡◌, ℕ, ◌+◌, ◌-◌, ◌*◌, ◌/◌, ◌%◌, ◌^◌, ◌<◌, ◌&&◌, nat_lt, nat_le, Bool, true, false, if◌then◌else◌, List, [], ◌∷◌, ◌++◌, length, take, drop, refl, ap, ◌∙◌, arith}
 use Rattle.eb_base.specs.declared.width.Width.TheVariants.{W32}
-use Rattle.eb_base.specs.Field.{octets_of, number_at}
+use Rattle.eb_base.specs.Field.{number_at, with_number}
 use Rattle.eb_base.specs.Lanes.{selected, port_address, shift, placed_adr, placed_dat, placed_sel, word_of}
 use Rattle.wb_signals.specs.Request.{Request, placed}
 use Rattle.wb_signals.specs.Content.{Nothing}
@@ -60,8 +60,8 @@ pub ram_step : (o : List ℕ) (r : Request) → 0 < length o → step (ram_wirin
 ram_step o r some = step_by (length o) o r (nat_lt r.adr (length o)) (covers_is (length o) r.adr some)
 
 written_by : (o : List ℕ) (at word : ℕ) (b : Bool) → merged W32 15 word (number_at W32 o at) ≡ word
-    → (if b then inside o (whole_word true at word) else outside o).contents ≡ ram_contents (if b then take at o ++ octets_of W32 word ++ drop (at + 4) o else o)
-written_by o at word true is = ap (λ (m : ℕ). ram_contents (take at o ++ octets_of W32 m ++ drop (at + 4) o)) is
+    → (if b then inside o (whole_word true at word) else outside o).contents ≡ ram_contents (if b then with_number W32 o at word else o)
+written_by o at word true is = ap (λ (m : ℕ). ram_contents (with_number W32 o at m)) is
 written_by o at word false is = refl
 
 -- A write of a whole word stores it.

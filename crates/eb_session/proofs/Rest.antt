@@ -23,7 +23,8 @@ use Rattle.eb_session.specs.Replies.{sets_of, slave, record_reply, replies_from}
 use Rattle.eb_session.specs.FirstForm.{header, IsPlain, IsAnswered, IsNoCapture}
 use Rattle.eb_session.specs.OnRam.{IsRam, ram_after, reply_of, record_in, StandsAt, TookHeader, TookRecord, BeginsWithNone}
 use Rattle.eb_session.proofs.Folds.{All-with}
-use Rattle.eb_session.proofs.Histories.{entry_of, entry_fit, entry_legal, entry_after, entry_given, entry_master, length-answers}
+use Rattle.wb_signals.proofs.CycleLemmas.{length-cycle}
+use Rattle.eb_session.proofs.Histories.{entry_of, entry_fit, entry_legal, entry_after, entry_given, entry_master}
 use Rattle.eb_session.proofs.Words.{on_bus, answers_at, record_leaves, record_replied, is_ram, length-after_writes}
 use Rattle.eb_session.proofs.Fronts.{NoRecords, none_begins, none_behind, none_headed}
 
@@ -115,7 +116,7 @@ one_record ram a rest left reply r is s fits plain m =
     let legal : IsLegal w (contents_after w c ops) m.history = subst (λ (k : List Content). IsLegal w k m.history) (sym leaves) (subst (λ (n : ℕ). IsLegal (ram_wiring n) (ram_contents q) m.history) len m.legal) in
     let ends : after w (contents_after w c ops) m.history ≡ ram_contents left =
     ap (λ (k : List Content). after w k m.history) leaves ∙ ap (λ (n : ℕ). after (ram_wiring n) (ram_contents q) m.history) (sym len) ∙ sym m.leaves in
-    let answers : length (answers_at ram r) ≡ length ops = length-answers w c ops in
+    let answers : length (answers_at ram r) ≡ length ops = length-cycle w c ops in
     record {
       records = r ∷ m.records;
       history = entry_of w c ops ++ m.history;

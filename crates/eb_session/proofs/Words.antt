@@ -4,9 +4,9 @@ use Rattle.std.proofs.lemmas.Bool.{cases_lt}
 use Rattle.std.proofs.lemmas.List.{length-take-le, get_or-append-add, get_or_append_left, get_or_push}
 use Rattle.std.proofs.lemmas.List.Elements.{All-get_or}
 use Rattle.eb_base.specs.declared.width.Width.TheVariants.{W32}
-use Rattle.eb_base.specs.Field.{octets_of}
+use Rattle.eb_base.specs.Field.{with_number}
 use Rattle.eb_base.specs.Lanes.{port_address}
-use Rattle.eb_base.proofs.FieldLemmas.{length-octets_of}
+use Rattle.eb_base.proofs.FieldLemmas.{length-with_number}
 use Rattle.eb_codec.specs.declared.item.Record.{Record}
 use Rattle.eb_codec.specs.Rules.{has}
 use Rattle.eb_codec.specs.Form.{zeroed, record_form, FitsRecord}
@@ -23,7 +23,7 @@ use Rattle.eb_session.specs.Replies.{slave, answer_word, read_word, answering, r
 use Rattle.eb_session.specs.FirstForm.{header, IsPlain}
 use Rattle.eb_session.specs.OnRam.{IsRam, stored, after_writes, ram_after, word_read, reply_of}
 use Rattle.eb_session.proofs.Folds.{length-upto}
-use Rattle.eb_session.proofs.Histories.{contents_after-append, cycle-append, length-answers}
+use Rattle.wb_signals.proofs.CycleLemmas.{contents_after-append, cycle-append, length-cycle}
 use Rattle.eb_session.proofs.RamSteps.{write_step, read_step, read_answer}
 
 -- What the flags of a plain record say: all its writes and reads go to the bus, and it ends its cycle.
@@ -47,13 +47,9 @@ on_bus r plain = elim plain.flags as (λ _. OnBus r) [
   | inr is ↦ on_bus_by r 0x88 is refl refl refl
 ]
 
-stored_by : (o : List ℕ) (at word : ℕ) (b : Bool) → nat_lt at (length o) ≡ b → at % 4 ≡ 0 → length o % 4 ≡ 0 → length (if b then take at o ++ octets_of W32 word ++ drop (at + 4) o else o) ≡ length o
+stored_by : (o : List ℕ) (at word : ℕ) (b : Bool) → nat_lt at (length o) ≡ b → at % 4 ≡ 0 → length o % 4 ≡ 0 → length (if b then with_number W32 o at word else o) ≡ length o
 stored_by o at word false is a w = refl
-stored_by o at word true is a w =
-    let lt : at < length o = grind arith in
-    let four : length (octets_of W32 word) ≡ 4 = length-octets_of W32 word in
-    let first : length (take at o) ≡ at = length-take-le at o (omega (arith, lt)) in
-    omega (arith, lt, a, w, first, four, length-drop (at + 4) o, length-append (take at o ++ octets_of W32 word) (drop (at + 4) o), length-append (take at o) (octets_of W32 word))
+stored_by o at word true is a w = let lt : at < length o = grind arith in length-with_number W32 o at word (omega (arith, lt, a, w))
 
 pub length-stored : (o : List ℕ) (adr word : ℕ) → length o % 4 ≡ 0 → length (stored o adr word) ≡ length o
 length-stored o adr word whole = stored_by o (port_address W32 adr) word (nat_lt (port_address W32 adr) (length o)) refl (omega arith) whole
@@ -119,7 +115,7 @@ one_more_answer o r n ram enable =
     ∙ ap (λ (c : List Content). read_answers o r n ++ (step w c q).answer ∷ []) (reads_leave o r n ram enable)
 
 length-read_answers : (o : List ℕ) (r : Record) (n : ℕ) → length (read_answers o r n) ≡ n
-length-read_answers o r n = length-answers (ram_wiring (length o)) (ram_contents o) (upto n (read_at W32 header r)) ∙ length-upto n (read_at W32 header r)
+length-read_answers o r n = length-cycle (ram_wiring (length o)) (ram_contents o) (upto n (read_at W32 header r)) ∙ length-upto n (read_at W32 header r)
 
 answer_is : (o : List ℕ) (r : Record) (n i : ℕ) → IsRam o → r.head.enable ≡ 0x0F → i < n → get_or (read_answers o r n) i Err ≡ answer_at o r i
 answer_is o r zero i ram enable lt = absurd (omega (arith, lt))
@@ -172,7 +168,7 @@ word_is o r e i ram fits plain lt =
     let ws : List Request = upto r.head.writes (write_at W32 header r) in
     let first : List Answer = answers_of (cycle (ram_wiring (length o)) (ram_contents o) ws) in
     let adr : ℕ = get_or r.addresses i 0 in
-    let len : length first ≡ r.head.writes = length-answers (ram_wiring (length o)) (ram_contents o) ws ∙ length-upto r.head.writes (write_at W32 header r) in
+    let len : length first ≡ r.head.writes = length-cycle (ram_wiring (length o)) (ram_contents o) ws ∙ length-upto r.head.writes (write_at W32 header r) in
     let is : length q ≡ length o = length-after_writes o r r.head.writes ram.whole in
     let ram' : IsRam q = is_ram o q ram is in
     let answer : get_or (answers_at o r) (bus_writes r + i) Err ≡ answer_at q r i =

@@ -1,7 +1,7 @@
 -- Plain records on one RAM, octet by octet.
 use Rattle.std.specs.Prelude.{◌≡◌, ◌⊎◌, ℕ, zero, suc, ◌+◌, ◌%◌, ◌^◌, ◌<◌, ◌≤◌, ◌==◌, nat_lt, if◌then◌else◌, List, [], ◌++◌, length, take, drop, slice_index, Option, Some, None}
 use Rattle.eb_base.specs.declared.width.Width.TheVariants.{W32}
-use Rattle.eb_base.specs.Field.{octets_of, number_at}
+use Rattle.eb_base.specs.Field.{number_at, with_number}
 use Rattle.eb_base.specs.Lanes.{port_address}
 use Rattle.eb_codec.specs.declared.item.Record.{Record}
 use Rattle.eb_codec.specs.declared.item.RecordHead.{RecordHead}
@@ -23,7 +23,7 @@ pub record IsRam (ram : List ℕ) : Type 0 where
 abbrev pub stored : List ℕ → ℕ → ℕ → List ℕ
 stored ram adr word =
     if nat_lt (port_address W32 adr) (length ram)
-    then take (port_address W32 adr) ram ++ octets_of W32 word ++ drop (port_address W32 adr + 4) ram
+    then with_number W32 ram (port_address W32 adr) word
     else ram
 
 -- The word at an address, 0 where it is past the end. Of a list of octets the remainder is the number itself.

@@ -8,20 +8,18 @@ ghost use Rattle.eb_session.specs.FirstForm.{header};
 ghost use Rattle.eb_session.specs.OnRam.{stored, loaded, after_writes, ram_after, word_read, reply_of, record_in, Shows};
 
 use crate::shown::{address, return_base, value, write_base};
-use eb_base::{NoMemory, get32};
+use eb_base::NoMemory;
+use eb_base::fields::{get32, put32};
 use eb_codec::{Decoder, RecordHead};
 
-const WORD: usize = 4;
-
 // Stores a word, nothing past the end.
-#[tactic(auto, unfolding(eb_base::specs::Field::octets_of))]
 fn store(ram: &mut [u8], adr: u32, word: u32)
     requires { length ram.old % 4 ≡ 0 }
     ensures { ram.new ≡ stored ram.old adr word }
 {
     let at = (adr - adr % 4) as usize;
     if at < ram.len() {
-        ram[at..at + WORD].copy_from_slice(&word.to_be_bytes());
+        put32(ram, at, word);
     }
 }
 

@@ -1,4 +1,4 @@
-use Rattle.std.proofs.Common.{ℕ, List, subst}
+use Rattle.std.proofs.Common.{ℕ, List, subst, arith}
 use Rattle.std.proofs.lemmas.List.{take_rest}
 use Rattle.eb_session.specs.OnRam.{TookRecord, BeginsWithNone}
 use Rattle.eb_session.proofs.Rest.{begins, runs_on, ends_run, stops_run}
@@ -11,7 +11,7 @@ loop-at-init c =
 pub returns-in_default-take_record-clause-answer : goal.returns-in_default-take_record-clause-answer
 returns-in_default-take_record-clause-answer c =
     let none = rw c.in_default-take_record.is at c.take_record.ensures in
-    stops_run c.args.ram.now c.args.capture.now c.loop-at.left.items c.loop-at.reply.items c.loop-at.decoder c.loop-at.at c.loop-at.invariant c.loop-at-test.true
+    stops_run c.args.ram.now c.args.capture.now c.loop-at.left.items c.loop-at.reply.items c.loop-at.decoder c.loop-at.at c.loop-at.invariant (omega arith)
     (subst BeginsWithNone (take_rest c.args.capture.now c.loop-at.at) none)
 
 pub loop-at-preserved : goal.loop-at-preserved
@@ -21,4 +21,4 @@ loop-at-preserved c =
     c.loop-at.invariant took c.in_ok-run_record.ensures.ram c.in_ok-run_record.ensures.reply
 
 pub returns-clause-answer : goal.returns-clause-answer
-returns-clause-answer c = ends_run c.args.ram.now c.args.capture.now c.loop-at.left.items c.loop-at.reply.items c.loop-at.decoder c.loop-at.at c.loop-at.invariant c.loop-at-test.false
+returns-clause-answer c = ends_run c.args.ram.now c.args.capture.now c.loop-at.left.items c.loop-at.reply.items c.loop-at.decoder c.loop-at.at c.loop-at.invariant (omega arith)
