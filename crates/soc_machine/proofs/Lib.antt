@@ -1,0 +1,3 @@
+pub mod RamLemmas
+pub mod PlainLemmas
+pub mod RunLemmas

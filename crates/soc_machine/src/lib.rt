@@ -1,0 +1,11 @@
+//! The machine without a clock, and the master that runs every cycle on it at once.
+#![tactic(auto)]
+
+mod machine;
+mod plain;
+
+pub use machine::Machine;
+pub use plain::PlainMaster;
+
+#[cfg(test)]
+mod tests;
