@@ -8,7 +8,7 @@ use Rattle.soc_desc.specs.declared.geometry.Span.{Span}
 use Rattle.soc_desc.specs.declared.geometry.Extent.{Extent}
 use Rattle.soc_desc.specs.Checks.{Path, Found, ◌>>=◌, at_place, at_key}
 use Rattle.soc_desc.specs.Geometry.{ItemPlace, meets, spans_meet, placed, placed_after, apart_from, are_apart, are_within, are_placed, extents, extent_at, spans_from, span_at, located, rom_extent}
-use Rattle.soc_desc.proofs.Rules.{and_parts, and_both}
+use Rattle.std.proofs.lemmas.Bool.{and_parts, and_from}
 
 -- the ranges of spans
 abbrev ranges : List Span → List Extent
@@ -28,7 +28,7 @@ clear_split [] s es h = (refl, (and_parts (none_meets s.extent es) true h).0)
 clear_split (b ∷ bs) s es h =
     let both = and_parts (none_meets b.extent es) (clear (bs ++ s ∷ []) es) h in
     let rest = clear_split bs s es both.1 in
-    (and_both (none_meets b.extent es) (clear bs es) both.0 rest.0, rest.1)
+    (and_from (none_meets b.extent es) (clear bs es) both.0 rest.0, rest.1)
 
 not_met : (s b : Span) (bs : List Span) → find (spans_meet s) (b ∷ bs) ≡ None → (not (meets s.extent b.extent) ≡ true) × (find (spans_meet s) bs ≡ None)
 not_met s b bs h = by (meets s.extent b.extent) refl where
@@ -41,7 +41,7 @@ clear_more s [] es f h = refl
 clear_more s (b ∷ bs) es f h =
     let both = and_parts (none_meets b.extent es) (clear bs es) h in
     let here = not_met s b bs f in
-    and_both (none_meets b.extent (s.extent ∷ es)) (clear bs (s.extent ∷ es)) (and_both (not (meets s.extent b.extent)) (none_meets b.extent es) here.0 both.0) (clear_more s bs es here.1 both.1)
+    and_from (none_meets b.extent (s.extent ∷ es)) (clear bs (s.extent ∷ es)) (and_from (not (meets s.extent b.extent)) (none_meets b.extent es) here.0 both.0) (clear_more s bs es here.1 both.1)
 
 -- what the check of one span says
 apart_is : (s : Span) (met : Option Span) → apart_from s met ≡ Ok tt → met ≡ None
@@ -71,8 +71,8 @@ spans_placed last before (s ∷ ss) h =
     let here = placed_is last before s parts.0 in
     let rest = spans_placed last (before ++ s ∷ []) ss parts.1 in
     let split = clear_split before s (ranges ss) rest.2 in (
-      and_both (nat_le s.extent.last last) (are_within last (ranges ss)) here.0 rest.0,
-      and_both (none_meets s.extent (ranges ss)) (are_apart (ranges ss)) split.1 rest.1,
+      and_from (nat_le s.extent.last last) (are_within last (ranges ss)) here.0 rest.0,
+      and_from (none_meets s.extent (ranges ss)) (are_apart (ranges ss)) split.1 rest.1,
       clear_more s before (ranges ss) here.1 split.0,
     )
 
@@ -91,4 +91,4 @@ bus_is_placed path last sdb items h =
     let spans = (located path last sdb items).spans in
     let placed = spans_placed last [] spans h in
     let same = ranges_are (at_key path (codes "items")) 0 items (record { path = at_key path (codes "sdb"); extent = rom_extent sdb (length items) }) in
-    subst (λ es. are_placed last es ≡ true) same (and_both (are_within last (ranges spans)) (are_apart (ranges spans)) placed.0 placed.1)
+    subst (λ es. are_placed last es ≡ true) same (and_from (are_within last (ranges spans)) (are_apart (ranges spans)) placed.0 placed.1)

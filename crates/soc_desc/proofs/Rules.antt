@@ -1,19 +1,12 @@
 -- Rules kept by a list with one more item, by a name, and by what was checked to be well placed.
 use Rattle.std.proofs.Common.{◌≡◌, ℕ, ◌-◌, ◌≤◌, ◌==◌, zero, suc, List, [], ◌∷◌, ◌++◌, length, map, replicate, Bool, true, false, ◌&&◌, not, nat_le, refl, sym, ap, ◌∙◌, subst, arith, length-append}
 use Rattle.std.proofs.lemmas.Bool.Decides.{nat_tests}
-use Rattle.std.proofs.lemmas.List.{length-replicate}
+use Rattle.std.proofs.lemmas.Bool.{and_parts, and_from}
+use Rattle.eb_base.proofs.NameLemmas.{IsPadded-padded}
 use Rattle.std.specs.List.{list_all}
 use Rattle.eb_base.specs.Name.{is_name, padded, are_printed, is_printed, ends_in_space}
 use Rattle.soc_desc.specs.declared.description.ItemDescription.{ItemDescription}
 use Rattle.soc_desc.specs.Accepted.{all_of, greatest, item_fields, item_levels, is_padded}
-
-pub and_parts : (a b : Bool) → (a && b) ≡ true → (a ≡ true) × (b ≡ true)
-and_parts true b h = (refl, h)
-and_parts false b h = (h, absurd (cc))
-
-pub and_both : (a b : Bool) → a ≡ true → b ≡ true → (a && b) ≡ true
-and_both true b h k = k
-and_both false b h k = h
 
 all_of_push : (bs : List Bool) (b : Bool) → all_of bs ≡ true → b ≡ true → all_of (bs ++ b ∷ []) ≡ true
 all_of_push [] true h k = refl
@@ -22,10 +15,10 @@ all_of_push (true ∷ bs) b h k = all_of_push bs b h k
 all_of_push (false ∷ bs) b h k = h
 
 pub list_all_push : {A : Type 0} (p : A → Bool) (xs : List A) (x : A) → list_all p xs ≡ true → p x ≡ true → list_all p (xs ++ x ∷ []) ≡ true
-list_all_push p [] x h k = and_both (p x) true k refl
+list_all_push p [] x h k = and_from (p x) true k refl
 list_all_push p (y ∷ ys) x h k =
     let both = and_parts (p y) (list_all p ys) h in
-    and_both (p y) (list_all p (ys ++ x ∷ [])) both.0 (list_all_push p ys x both.1 k)
+    and_from (p y) (list_all p (ys ++ x ∷ [])) both.0 (list_all_push p ys x both.1 k)
 
 map_push : {A B : Type 0} (f : A → B) (xs : List A) (x : A) → map f (xs ++ x ∷ []) ≡ map f xs ++ f x ∷ []
 map_push f [] x = refl
@@ -46,21 +39,9 @@ levels_push is x most h k = subst (λ ns. greatest ns ≤ most) (sym (map_push i
 
 -- ---- names
 
-printed_append : (xs ys : List ℕ) → are_printed xs ≡ true → are_printed ys ≡ true → are_printed (xs ++ ys) ≡ true
-printed_append [] ys h k = k
-printed_append (x ∷ xs) ys h k =
-    let both = and_parts (is_printed x) (are_printed xs) h in
-    and_both (is_printed x) (are_printed (xs ++ ys)) both.0 (printed_append xs ys both.1 k)
-
-spaces_printed : (n : ℕ) → are_printed (replicate n 0x20) ≡ true
-spaces_printed zero = refl
-spaces_printed (suc n) = spaces_printed n
-
+-- a name in its 19 octets, as a test
 pub name_padded : (t : List ℕ) → is_name t ≡ true → is_padded (padded t) ≡ true
 name_padded t h =
-    let front = and_parts (nat_le (length t) 19 && are_printed t) (not (ends_in_space t)) h in
-    let parts = and_parts (nat_le (length t) 19) (are_printed t) front.0 in
-    let short : length t ≤ 19 = grind (arith, nat_tests) in
-    let whole : length (padded t) ≡ 19 = omega (arith, length-append t (replicate (19 - length t) 0x20), length-replicate {A = ℕ} (19 - length t) 0x20) in
-    let long : (length (padded t) == 19) ≡ true = grind (arith, nat_tests) in
-    and_both (length (padded t) == 19) (are_printed (padded t)) long (printed_append t (replicate (19 - length t) 0x20) parts.1 (spaces_printed (19 - length t)))
+    let whole = IsPadded-padded t h in
+    let long : (length (padded t) == 19) ≡ true = grind (arith, nat_tests, whole.0) in
+    and_from (length (padded t) == 19) (are_printed (padded t)) long whole.1

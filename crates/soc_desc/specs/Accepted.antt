@@ -28,7 +28,7 @@ abbrev pub is_padded : List ℕ → Bool
 is_padded octets = length octets == 19 && are_printed octets
 
 abbrev pub is_product : Product → Bool
-is_product p = is_in u64 p.vendor && is_in u32 p.device && is_in u32 p.version && is_in u32 p.date && is_padded p.name.octets
+is_product p = is_in u64 p.vendor && is_in u32 p.device && is_in u32 p.version && is_in u32 p.date && is_padded p.name
 
 abbrev pub is_reg : Reg → Bool
 is_reg r = is_in u32 r.reset

@@ -2,7 +2,6 @@
 use Rattle.std.specs.Prelude.{ℕ, zero, suc, ◌^◌, ◌-◌, List, [], ◌∷◌, Ok, Err, if◌then◌else◌, codes}
 use Rattle.serde_json.specs.Data.{Data, Members}
 use Rattle.eb_base.specs.Name.{is_name, padded}
-use Rattle.eb_base.specs.declared.name.Name.{Name}
 use Rattle.eb_base.specs.declared.name.Product.{Product}
 use Rattle.eb_base.specs.declared.reg.Reg.{Reg}
 use Rattle.eb_base.specs.declared.reg.Mode.{Mode}
@@ -67,10 +66,11 @@ kinds =
     record { word = codes "ram"; stands = kind.Ram } ∷ record { word = codes "regs"; stands = kind.Regs } ∷ record { word = codes "fifo"; stands = kind.Fifo }
     ∷ record { word = codes "bridge"; stands = kind.Bridge } ∷ record { word = codes "integration"; stands = kind.Integration } ∷ record { word = codes "empty"; stands = kind.Empty } ∷ []
 
-abbrev pub name_in : Path → List ℕ → Found Name
-name_in path t = if is_name t then Ok (record { octets = padded t }) else Err (fault.Name path)
+-- a name, in its 19 octets
+abbrev pub name_in : Path → List ℕ → Found (List ℕ)
+name_in path t = if is_name t then Ok (padded t) else Err (fault.Name path)
 
-abbrev pub name : Path → Data → Found Name
+abbrev pub name : Path → Data → Found (List ℕ)
 name path d = text path d >>= name_in path
 
 -- ---- a product

@@ -126,7 +126,7 @@ fn name_at(
     key: &str,
 ) -> Result<Name, DescFault>
     ensures found { Gives (λ n. n) result (required name path.now key.now (members_view members.now.entries)) }
-    ensures padded { IfOk result (λ n. is_padded n.octets ≡ true) }
+    ensures padded { IfOk result (λ n. is_padded n ≡ true) }
 {
     let Some(value) = find(members, key) else {
         return Err(DescFault::Missing(path.key(alloc, key)?));
