@@ -1,0 +1,5 @@
+pub mod Digits
+pub mod Each
+pub mod Inner
+pub mod Placing
+pub mod Rules

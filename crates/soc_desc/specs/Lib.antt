@@ -1,0 +1,6 @@
+pub mod Checks
+pub mod Shape
+pub mod Geometry
+pub mod Totals
+pub mod Accepted
+pub mod Described
