@@ -13,3 +13,6 @@ pub use decoding::decode;
 pub use encoding::encode;
 pub use faults::{RecordFault, RecordWhy};
 pub use kinds::Record;
+
+#[cfg(test)]
+mod tests;
