@@ -1,0 +1,4 @@
+pub mod TextLemmas
+pub mod FaultLemmas
+pub mod ReadLemmas
+pub mod WriteLemmas
