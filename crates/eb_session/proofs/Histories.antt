@@ -1,9 +1,9 @@
 -- The histories of whole cycles.
-use Rattle.std.proofs.Common.{◌≡◌, false, List, [], ◌∷◌, ◌++◌, length, map, refl, sym, ap, ◌∙◌, subst, arith}
+use Rattle.std.proofs.Common.{◌≡◌, false, List, [], ◌∷◌, ◌++◌, map, refl, sym, ap, ◌∙◌, subst}
 use Rattle.std.specs.List.{All}
 use Rattle.wb_signals.specs.Request.{Request}
 use Rattle.wb_signals.specs.Content.{Content}
-use Rattle.wb_signals.specs.Wiring.{Wiring, step}
+use Rattle.wb_signals.specs.Wiring.{Wiring}
 use Rattle.wb_signals.specs.History.{Pair, Entry, requests_of, answers_of, cycle, contents_after, IsLegal, after}
 use Rattle.wb_signals.specs.declared.answer.Answer.{Answer}
 use Rattle.wb_signals.proofs.CycleLemmas.{requests_of-cycle}

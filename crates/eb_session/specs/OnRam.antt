@@ -1,5 +1,5 @@
 -- Plain records on one RAM, octet by octet.
-use Rattle.std.specs.Prelude.{◌≡◌, ◌⊎◌, ℕ, zero, suc, ◌+◌, ◌%◌, ◌^◌, ◌<◌, ◌≤◌, ◌==◌, nat_lt, if◌then◌else◌, List, [], ◌++◌, length, take, drop, slice_index, Option, Some, None}
+use Rattle.std.specs.Prelude.{◌≡◌, ◌⊎◌, ℕ, zero, suc, ◌+◌, ◌%◌, ◌^◌, ◌<◌, ◌≤◌, ◌==◌, nat_lt, if◌then◌else◌, List, [], ◌++◌, length, take, slice_index, Option, Some, None}
 use Rattle.eb_base.specs.declared.width.Width.TheVariants.{W32}
 use Rattle.eb_base.specs.Field.{number_at, with_number}
 use Rattle.eb_base.specs.Lanes.{port_address}
