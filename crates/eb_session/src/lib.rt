@@ -19,4 +19,6 @@ pub use first_session::FirstSession;
 pub use session::{End, Fed, Session};
 
 #[cfg(test)]
+mod session_tests;
+#[cfg(test)]
 mod tests;

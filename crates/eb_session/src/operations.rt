@@ -234,6 +234,7 @@ pub fn run_ops<M: Master>(
     ensures opened_kept { OnErr result (M.opened master.new ≡ M.opened master.old) }
     ensures bus { M.bus master.new ≡ M.bus master.old }
     ensures number { M.number master.new ≡ M.number master.old }
+    ensures kept { M.kept master.new ≡ M.kept master.old }
 {
     if ops.is_empty() && !(last && opened) {
         return Ok(());

@@ -29,6 +29,7 @@ pub fn cut_open<M: Master>(master: &mut M, opened: bool)
     ensures cut { WasCut (M.number master.old) (cycles_of (M.made master.old) (M.opened master.old)) (cycles_of (M.made master.new) (M.opened master.new)) }
     ensures bus { M.bus master.new ≡ M.bus master.old }
     ensures number { M.number master.new ≡ M.number master.old }
+    ensures kept { M.kept master.new ≡ M.kept master.old }
 {
     if opened {
         master.cut();
@@ -77,6 +78,7 @@ pub fn run_record<M: Master>(
     ensures reply_kept { OnErr result (reply.new.items ≡ []) }
     ensures bus { M.bus master.new ≡ M.bus master.old }
     ensures number { M.number master.new ≡ M.number master.old }
+    ensures kept { M.kept master.new ≡ M.kept master.old }
     ensures ops_room { 510 ≤ vec_capacity ops.new }
     ensures reply_room { 2056 ≤ vec_capacity reply.new }
     ensures most { length reply.new.items ≤ 2056 }

@@ -134,6 +134,7 @@ impl Session {
         ensures slave { self.new.slave ≡ self.old.slave }
         ensures bus { M.bus master.new ≡ M.bus master.old }
         ensures number { M.number master.new ≡ M.number master.old }
+        ensures kept { M.kept master.new ≡ M.kept master.old }
     {
         self.reply.clear();
         if let Some(ending) = self.ending {
@@ -218,6 +219,7 @@ impl Session {
         ensures slave { self.new.slave ≡ self.old.slave }
         ensures bus { M.bus master.new ≡ M.bus master.old }
         ensures number { M.number master.new ≡ M.number master.old }
+        ensures kept { M.kept master.new ≡ M.kept master.old }
     {
         self.reply.clear();
         if let Some(ending) = self.ending {
