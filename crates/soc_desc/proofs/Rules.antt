@@ -1,10 +1,10 @@
 -- Rules kept by a list with one more item, by a name, and by what was checked to be well placed.
-use Rattle.std.proofs.Common.{◌≡◌, ℕ, ◌-◌, ◌≤◌, ◌==◌, zero, suc, List, [], ◌∷◌, ◌++◌, length, map, replicate, Bool, true, false, ◌&&◌, not, nat_le, refl, sym, ap, ◌∙◌, subst, arith, length-append}
+use Rattle.std.proofs.Common.{◌≡◌, ℕ, ◌≤◌, ◌==◌, List, [], ◌∷◌, ◌++◌, length, map, Bool, true, false, refl, sym, ap, ◌∙◌, subst, arith}
 use Rattle.std.proofs.lemmas.Bool.Decides.{nat_tests}
 use Rattle.std.proofs.lemmas.Bool.{and_parts, and_from}
 use Rattle.eb_base.proofs.NameLemmas.{IsPadded-padded}
 use Rattle.std.specs.List.{list_all}
-use Rattle.eb_base.specs.Name.{is_name, padded, are_printed, is_printed, ends_in_space}
+use Rattle.eb_base.specs.Name.{is_name, padded, are_printed}
 use Rattle.soc_desc.specs.declared.description.ItemDescription.{ItemDescription}
 use Rattle.soc_desc.specs.Accepted.{all_of, greatest, item_fields, item_levels, is_padded}
 

@@ -14,3 +14,6 @@ pub use description::{BusDescription, Description, ItemDescription, Items, PortW
 pub use fault::DescFault;
 pub use path::Path;
 pub use reading::read;
+
+#[cfg(test)]
+mod tests;
