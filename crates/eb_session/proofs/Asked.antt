@@ -1,5 +1,5 @@
 -- What a record asks and what it is answered.
-use Rattle.std.proofs.Common.{◌≡◌, ℕ, zero, suc, ◌+◌, ◌-◌, ◌*◌, ◌<◌, ◌≤◌, ◌==◌, ◌&&◌, ◌||◌, Bool, true, false, not, if◌then◌else◌, List, [], ◌∷◌, ◌++◌, length, take, replicate, refl, sym, ap, ◌∙◌, arith, length-append}
+use Rattle.std.proofs.Common.{◌≡◌, ℕ, zero, suc, ◌+◌, ◌-◌, ◌<◌, ◌≤◌, ◌==◌, ◌&&◌, ◌||◌, Bool, true, false, not, if◌then◌else◌, List, [], ◌∷◌, ◌++◌, length, take, replicate, refl, sym, ap, ◌∙◌, arith, length-append}
 use Rattle.std.proofs.lemmas.List.{append-nil, append_assoc, take_at}
 use Rattle.std.specs.List.{flat_map}
 use Rattle.eb_base.specs.declared.width.Width.{Width}
@@ -10,7 +10,7 @@ use Rattle.eb_codec.specs.Rules.{has}
 use Rattle.eb_codec.specs.Sizes.{unit_octets, gap}
 use Rattle.eb_codec.specs.Form.{Form, fixed, padding, zeroed, field, part, record_body, record_form}
 use Rattle.eb_codec.specs.Reading.{body_octets}
-use Rattle.eb_codec.proofs.Zeroed.{zeroed-append, zeroed-padding, zeroed_part, flat_map-append}
+use Rattle.eb_codec.proofs.Zeroed.{zeroed-append, zeroed-padding, zeroed_part}
 use Rattle.eb_codec.proofs.RecordLemmas.{length-record_body}
 use Rattle.wb_signals.specs.Request.{Request}
 use Rattle.wb_signals.specs.declared.answer.Answer.{Answer}
@@ -18,7 +18,6 @@ use Rattle.wb_signals.specs.History.{Pair}
 use Rattle.wb_signals.specs.Cycles.{paired, opened_after}
 use Rattle.eb_session.specs.Operations.{upto, write_at, read_at, bus_writes, bus_reads, record_ops}
 use Rattle.eb_session.specs.Replies.{Slave, read_word, record_reply, answering, reply_flags}
-use Rattle.eb_session.specs.Configuration.{register}
 use Rattle.eb_session.specs.Shown.{answered_to}
 use Rattle.eb_session.specs.Keeping.{is_some}
 use Rattle.eb_session.proofs.Fitting.{length-upto}

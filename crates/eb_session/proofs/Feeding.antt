@@ -1,9 +1,7 @@
 -- What one call of feed does, by the item that the decoder gave.
-use Rattle.std.proofs.Common.{◌≡◌, ℕ, ◌+◌, ◌≤◌, ◌<◌, Bool, true, false, List, [], ◌∷◌, ◌++◌, length, take, drop, Option, Some, None, Result, Ok, Err, refl, sym, ap, ◌∙◌, subst, arith, length-take}
+use Rattle.std.proofs.Common.{◌≡◌, ℕ, ◌≤◌, Bool, true, false, List, [], ◌∷◌, ◌++◌, length, take, drop, Option, Some, None, Result, Ok, Err, refl, sym, ap, ◌∙◌, subst}
 use Rattle.std.specs.Prelude.{MatchOption}
 use Rattle.std.proofs.lemmas.List.{append-nil, append_assoc, take-append-drop}
-use Rattle.eb_base.specs.declared.width.Width.{Width}
-use Rattle.eb_base.specs.Width.{octets}
 use Rattle.eb_codec.specs.declared.item.Header.{Header}
 use Rattle.eb_codec.specs.declared.item.Probe.{Probe}
 use Rattle.eb_codec.specs.declared.item.Record.{Record}
@@ -11,24 +9,23 @@ use Rattle.eb_codec.specs.declared.item.RecordHead.{RecordHead}
 use Rattle.eb_codec.specs.declared.event.Malformed.{Malformed}
 use Rattle.eb_codec.specs.declared.event.Step.{Step}
 use Rattle.eb_codec.specs.declared.event.Item.TheVariants as item
-use Rattle.eb_codec.specs.Decoding.{Progress, Takes, Refuses, Gives}
+use Rattle.eb_codec.specs.Decoding.{Progress, Takes, Refuses}
 use Rattle.eb_codec.specs.Decoding.{Feeds as Decodes}
 use Rattle.eb_codec.specs.Stream.{Probed, Headed, Recorded, Spells}
 use Rattle.wb_signals.specs.History.{Pair, Entry}
-use Rattle.wb_signals.specs.Cycles.{paired, opened_after}
+use Rattle.wb_signals.specs.Cycles.{paired}
 use Rattle.wb_signals.specs.declared.answer.Answer.{Answer}
 use Rattle.eb_session.specs.declared.session.End.{End}
 use Rattle.eb_session.specs.declared.session.End.TheVariants as end
 use Rattle.eb_session.specs.declared.session.Fed.{Fed}
 use Rattle.eb_codec.specs.Decoding.{record_in}
 use Rattle.eb_session.specs.Operations.{record_ops, ends_cycle}
-use Rattle.eb_session.specs.Replies.{Slave, probe_reply, header_reply, record_reply, item_reply}
+use Rattle.eb_session.specs.Replies.{probe_reply, header_reply, record_reply, item_reply}
 use Rattle.eb_session.specs.Configuration.{register}
 use Rattle.eb_session.specs.Cycles.{item_ops}
-use Rattle.eb_codec.specs.Form.{Fills, FitsRecord, KeepsRules, record_form}
-use Rattle.eb_codec.specs.Stream.{BreaksNone}
+use Rattle.eb_codec.specs.Form.{FitsRecord, KeepsRules}
 use Rattle.eb_session.proofs.Legal.{keeps}
-use Rattle.eb_session.specs.Keeping.{Kept, MasterCycles, Added, Ran, Closed, WasCut, Answers, Feeds, Asks, is_some, made_with, cycles_of}
+use Rattle.eb_session.specs.Keeping.{Kept, MasterCycles, Added, WasCut, Answers, Feeds, Asks, is_some, made_with, cycles_of}
 use Rattle.eb_session.specs.Shown.{ShowsRecord}
 
 if_none : {A : Type 0} (P : Type 0) (Q : A → Type 0) (o : Option A) → o ≡ None → P → MatchOption o P Q

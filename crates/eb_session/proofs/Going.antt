@@ -1,6 +1,6 @@
 -- A session from its beginning on: one more item.
-use Rattle.std.proofs.Common.{◌≡◌, ℕ, zero, suc, ◌+◌, ◌*◌, ◌%◌, ◌^◌, ◌<◌, ◌≤◌, Bool, true, false, List, [], ◌∷◌, ◌++◌, length, map, take, drop, Option, Some, None, refl, sym, ap, ◌∙◌, subst, arith, length-append, lit<}
-use Rattle.std.proofs.lemmas.List.{append_assoc, append-nil, map-append, take-append-drop, take_at, drop_at, take-append-le, drop-append-le, length-take-le}
+use Rattle.std.proofs.Common.{◌≡◌, ℕ, ◌+◌, ◌≤◌, Bool, true, false, List, [], ◌∷◌, ◌++◌, length, map, take, drop, Option, None, refl, sym, ap, ◌∙◌, subst, arith, length-append, lit<}
+use Rattle.std.proofs.lemmas.List.{append_assoc, append-nil, map-append, take-append-drop, take_at, take-append-le, drop-append-le, length-take-le}
 use Rattle.eb_base.specs.declared.width.Width.{Width}
 use Rattle.eb_codec.specs.declared.item.Header.{Header}
 use Rattle.eb_codec.specs.Stream.{header_after, header_after_all}
@@ -8,7 +8,7 @@ use Rattle.eb_codec.specs.Stream.{StreamItem}
 use Rattle.wb_signals.specs.Request.{Request}
 use Rattle.wb_signals.specs.declared.answer.Answer.{Answer}
 use Rattle.wb_signals.specs.History.{Pair, Entry, requests_of, answers_of}
-use Rattle.wb_signals.specs.Cycles.{paired, made_after, opened_after, ended}
+use Rattle.wb_signals.specs.Cycles.{paired}
 use Rattle.eb_session.specs.Cycles.{Group, Cut, group, cut_more, cut_from, cut_of, item_ops, item_ends, marked, given, count_from}
 use Rattle.eb_session.specs.Replies.{Slave, sets_of, item_reply, replies_from, replies}
 use Rattle.eb_session.specs.Configuration.{register}

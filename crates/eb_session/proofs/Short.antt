@@ -1,5 +1,5 @@
 -- A reply is no longer than its request.
-use Rattle.std.proofs.Common.{◌≡◌, ℕ, zero, suc, ◌+◌, ◌-◌, ◌*◌, ◌%◌, ◌≤◌, ◌==◌, Bool, true, false, if◌then◌else◌, List, [], ◌∷◌, ◌++◌, length, map, take, replicate, Option, Some, None, Result, Ok, Err, refl, sym, ap, ◌∙◌, subst, arith, ◌⊎◌, inl, inr, length-append, length-take}
+use Rattle.std.proofs.Common.{◌≡◌, ℕ, ◌+◌, ◌-◌, ◌≤◌, ◌==◌, Bool, true, false, if◌then◌else◌, List, [], ◌++◌, length, take, replicate, Option, Some, None, Result, Ok, Err, refl, sym, ap, ◌∙◌, subst, arith, ◌⊎◌, inl, inr, length-append, length-take}
 use Rattle.std.proofs.lemmas.List.{length-replicate}
 use Rattle.std.specs.Prelude.{MatchOption}
 use Rattle.eb_base.specs.declared.width.Width.TheVariants.{W32}
@@ -8,10 +8,9 @@ use Rattle.eb_base.proofs.FieldLemmas.{length-octets_of}
 use Rattle.eb_codec.specs.declared.item.Header.{Header}
 use Rattle.eb_codec.specs.declared.item.Record.{Record}
 use Rattle.eb_codec.specs.Sizes.{field_octets, unit_octets, gap}
-use Rattle.eb_codec.specs.Reading.{body_octets, part_octets, record_octets}
-use Rattle.eb_codec.specs.Form.{Fills, FitsRecord, probe_form, header_form, record_form, zeroed, padding}
-use Rattle.eb_codec.specs.Stream.{StreamItem, Probed, Headed, Recorded, Spells}
-use Rattle.eb_codec.specs.Decoding.{Progress}
+use Rattle.eb_codec.specs.Reading.{body_octets, record_octets}
+use Rattle.eb_codec.specs.Form.{Fills, FitsRecord, probe_form, header_form, record_form, zeroed}
+use Rattle.eb_codec.specs.Stream.{Probed, Headed, Recorded}
 use Rattle.eb_codec.proofs.FormLemmas.{length-Fills, length-fixed, length-padding}
 use Rattle.eb_codec.proofs.RecordLemmas.{length-record_form}
 use Rattle.eb_codec.proofs.Zeroed.{length-zeroed}
@@ -19,9 +18,9 @@ use Rattle.wb_signals.specs.declared.answer.Answer.{Answer}
 use Rattle.eb_session.specs.declared.session.Fed.{Fed}
 use Rattle.eb_session.specs.declared.session.End.{End}
 use Rattle.eb_session.specs.Operations.{upto}
-use Rattle.eb_session.specs.Replies.{Slave, read_word, answering, record_reply, probe_reply, header_reply, item_reply}
+use Rattle.eb_session.specs.Replies.{Slave, read_word, answering, record_reply}
 use Rattle.eb_session.specs.Configuration.{register}
-use Rattle.eb_session.specs.Keeping.{Kept, MasterCycles, Ran, Waits, FedItem, Answers, Feeds, Stays}
+use Rattle.eb_session.specs.Keeping.{Kept, MasterCycles, FedItem, Answers, Feeds, Stays}
 use Rattle.eb_session.specs.Course.{IsShort}
 use Rattle.eb_session.proofs.Fitting.{length-upto}
 

@@ -1,17 +1,15 @@
 -- Whole runs of a session.
-use Rattle.std.proofs.Common.{◌≡◌, ◌≢◌, ℕ, zero, suc, ◌+◌, ◌-◌, ◌≤◌, ◌<◌, Bool, true, false, List, [], ◌∷◌, ◌++◌, length, map, take, drop, Option, Some, None, Result, Ok, Err, refl, sym, ap, ◌∙◌, subst, arith, inl, inr}
+use Rattle.std.proofs.Common.{◌≡◌, ℕ, ◌+◌, ◌-◌, ◌≤◌, Bool, true, false, List, [], ◌∷◌, ◌++◌, length, take, drop, Option, None, Result, Ok, Err, refl, sym, ap, ◌∙◌, subst, arith, inl, inr}
 use Rattle.std.specs.Prelude.{MatchOption}
 use Rattle.std.specs.List.{All}
 use Rattle.std.proofs.lemmas.Bool.{cases_lt}
 use Rattle.std.proofs.lemmas.List.{append_assoc, append-nil, map-append, take-append-drop, take-append-le}
 use Rattle.std.proofs.lemmas.List.Elements.{All-nil}
-use Rattle.eb_base.specs.declared.width.Width.{Width}
 use Rattle.eb_base.specs.declared.width.Widths.{Widths}
 use Rattle.eb_codec.specs.declared.item.Header.{Header}
 use Rattle.eb_codec.specs.declared.item.Record.{Record}
 use Rattle.eb_codec.specs.declared.item.Why.{Why}
 use Rattle.eb_codec.specs.Stream.{StreamItem, Recorded, Spells, SpellsAll, IsPartial, AreItems, IsFirstBad, IsBadOctet, header_after, header_after_all}
-use Rattle.eb_codec.specs.Decoding.{Progress, Refuses}
 use Rattle.eb_codec.proofs.ItemLemmas.{one_spelling}
 use Rattle.eb_codec.proofs.RoomLemmas.{take-append-ge}
 use Rattle.eb_codec.proofs.StreamLemmas.{spells_one, spells_append, no_whole, longest, first_bad}
@@ -24,7 +22,7 @@ use Rattle.eb_session.specs.declared.session.End.TheVariants as end
 use Rattle.eb_session.specs.Cycles.{Group, group, cut_of, item_ops, item_ends, marked, given, Fit}
 use Rattle.eb_session.specs.Configuration.{register}
 use Rattle.eb_session.specs.Replies.{Slave, sets_of, replies}
-use Rattle.eb_session.specs.Keeping.{Kept, MasterCycles, Ran, Waits, Closed, Asks, EndsFor, HasAsking, Answers, FedItem, Feeds, Finishes, WasCut, Stays, cut_with, finished, new_session}
+use Rattle.eb_session.specs.Keeping.{Kept, MasterCycles, Waits, Closed, Asks, EndsFor, HasAsking, Answers, FedItem, Stays, cut_with, finished}
 use Rattle.eb_session.specs.Course.{IsOn, Goes, HasNoBad, EndsBy, HasEnded, Begins, FedGoes, RunsAll, FinishEnds, FedEnds, all_given}
 use Rattle.eb_session.proofs.Fitting.{All-more}
 use Rattle.eb_session.proofs.Going.{goes_on, given-append, none_pends}

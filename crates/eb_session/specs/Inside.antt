@@ -1,5 +1,5 @@
 -- What a session's fields stand for.
-use Rattle.std.specs.Prelude.{◌≡◌, ℕ, ◌≤◌, None, false, IfSome, length, vec_capacity}
+use Rattle.std.specs.Prelude.{◌≡◌, ◌≤◌, None, false, IfSome, length, vec_capacity}
 use Rattle.eb_base.specs.Width.{octets}
 use Rattle.eb_session.specs.declared.session.Session.TheInside.{Inside}
 use Rattle.eb_session.specs.Replies.{slave, sets_of}

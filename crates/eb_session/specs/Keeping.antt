@@ -1,11 +1,8 @@
 -- What a session keeps, and what one call makes of it.
 use Rattle.std.specs.Prelude.{◌≡◌, ◌≢◌, ℕ, ◌+◌, ◌<◌, ◌≤◌, Bool, true, false, List, [], ◌∷◌, ◌++◌, length, take, Option, Some, None, Result, Ok, Err, MatchOption}
-use Rattle.eb_codec.specs.declared.item.Header.{Header}
 use Rattle.eb_codec.specs.declared.item.Record.{Record}
-use Rattle.eb_codec.specs.declared.item.RecordHead.{RecordHead}
 use Rattle.eb_codec.specs.Decoding.{Progress, fresh, after_item, Refuses}
-use Rattle.eb_codec.specs.Stream.{StreamItem, Probed, Headed, Recorded, header_after, Spells, IsPartial}
-use Rattle.eb_codec.specs.Form.{FitsRecord, KeepsRules}
+use Rattle.eb_codec.specs.Stream.{StreamItem, Recorded, Spells, IsPartial}
 use Rattle.wb_signals.specs.Request.{Request}
 use Rattle.wb_signals.specs.History.{Pair, Entry}
 use Rattle.wb_signals.specs.Cycles.{paired, made_after, opened_after, ended}

@@ -1,4 +1,4 @@
-use Rattle.std.proofs.Common.{◌≡◌, take, ℕ}
+use Rattle.std.proofs.Common.{◌≡◌, take}
 use Rattle.eb_session.specs.Configuration.{register}
 use Rattle.eb_session.proofs.configuration.shifted.Given as goal
 

@@ -1,8 +1,8 @@
-use Rattle.std.proofs.Common.{◌≡◌, ◌<◌, ◌%◌, ◌^◌, ℕ, false, sym, ap, ◌∙◌, subst}
+use Rattle.std.proofs.Common.{◌<◌, ◌%◌, ◌^◌, ℕ, sym, ap, ◌∙◌, subst}
 use Rattle.eb_base.specs.Width.{octets}
 use Rattle.eb_base.specs.Lanes.{selected, placed_dat, placed_sel}
 use Rattle.eb_base.proofs.LaneLemmas.{placed_adr-aligned, placed_sel-some, placed_sel-lt, placed_dat-selected, placed_dat-zero}
-use Rattle.wb_signals.specs.Request.{Request, placed}
+use Rattle.wb_signals.specs.Request.{placed}
 use Rattle.eb_session.proofs.operations.access.Goals as goal
 
 pub invariant_of-result : goal.invariant_of-result

@@ -1,4 +1,4 @@
-use Rattle.std.proofs.Common.{◌≡◌, ◌≤◌, ◌+◌, ◌++◌, vec_len, vec_capacity, ℕ, List}
+use Rattle.std.proofs.Common.{◌≡◌, ◌≤◌, ◌+◌, ◌++◌, vec_len, vec_capacity}
 use Rattle.wb_signals.specs.Cycles.{AllFitBus}
 use Rattle.eb_session.specs.Operations.{write_at, upto}
 use Rattle.eb_codec.specs.Decoding.{record_in}

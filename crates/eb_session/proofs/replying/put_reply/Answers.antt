@@ -1,4 +1,4 @@
-use Rattle.std.proofs.Common.{◌≡◌, ℕ, arith, ap, ◌∙◌, ◌++◌}
+use Rattle.std.proofs.Common.{arith, ap, ◌∙◌, ◌++◌}
 use Rattle.eb_codec.specs.Form.{zeroed, field}
 use Rattle.eb_codec.specs.Decoding.{record_in}
 use Rattle.eb_session.specs.Replies.{slave}

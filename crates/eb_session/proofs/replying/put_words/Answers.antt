@@ -1,6 +1,5 @@
-use Rattle.std.proofs.Common.{◌≡◌, ℕ, ◌+◌, ◌*◌, arith}
+use Rattle.std.proofs.Common.{arith}
 use Rattle.eb_codec.specs.Decoding.{record_in}
-use Rattle.eb_session.specs.Operations.{upto}
 use Rattle.eb_session.specs.Replies.{slave, read_word}
 use Rattle.eb_session.proofs.Fitting.{one_more_word}
 use Rattle.eb_session.proofs.replying.put_words.Goals as goal

@@ -1,4 +1,4 @@
-use Rattle.std.proofs.Common.{◌≡◌, ◌≤◌, ◌+◌, ◌*◌, ◌++◌, vec_len, vec_capacity, ℕ, List}
+use Rattle.std.proofs.Common.{◌≡◌, ◌≤◌, ◌+◌, ◌*◌, ◌++◌, vec_len, vec_capacity}
 use Rattle.std.specs.List.{flat_map}
 use Rattle.eb_codec.specs.Sizes.{field_octets}
 use Rattle.eb_codec.specs.Form.{zeroed, field}

@@ -1,14 +1,12 @@
-use Rattle.std.proofs.Common.{◌≡◌, ℕ, List, ap, ◌∙◌, ◌++◌, length, take, sym, refl, subst, arith}
+use Rattle.std.proofs.Common.{◌≡◌, ℕ, List, ap, ◌∙◌, ◌++◌, length, refl, subst, arith}
 use Rattle.wb_signals.specs.declared.answer.Answer.{Answer}
 use Rattle.wb_signals.specs.Request.{Request}
-use Rattle.wb_signals.specs.Cycles.{paired, opened_after}
 use Rattle.eb_codec.specs.Decoding.{record_in}
 use Rattle.eb_session.specs.Operations.{record_ops}
 use Rattle.eb_session.specs.Replies.{slave, record_reply}
 use Rattle.eb_session.specs.Configuration.{register}
 use Rattle.eb_session.specs.Shown.{answered_to}
-use Rattle.eb_session.specs.Keeping.{is_some}
-use Rattle.eb_session.proofs.Asked.{enough, taken, still_open, reply_same}
+use Rattle.eb_session.proofs.Asked.{enough, taken, reply_same}
 use Rattle.eb_session.proofs.running.run_record.Goals as goal
 
 pub put_reply-requires-clause-answers : goal.put_reply-requires-clause-answers

@@ -1,9 +1,8 @@
-use Rattle.std.proofs.Common.{◌≡◌, ℕ, ◌≤◌, List, ◌++◌, length, take, Option, Some, None, Result, Ok, Err, refl, sym, ap, ◌∙◌, subst, arith, true, false}
+use Rattle.std.proofs.Common.{◌≡◌, ℕ, ◌≤◌, List, ◌++◌, length, take, Option, refl, sym, ap, ◌∙◌, subst, arith, true, false}
 use Rattle.std.specs.Prelude.{IfSome}
 use Rattle.eb_base.specs.Width.{octets}
 use Rattle.eb_codec.specs.declared.item.Header.{Header}
 use Rattle.eb_codec.specs.declared.event.Item.{Item}
-use Rattle.eb_codec.specs.declared.event.Item.TheVariants as item
 use Rattle.eb_codec.specs.Decoding.{Progress, Takes}
 use Rattle.eb_session.specs.Inside.{kept_in}
 use Rattle.eb_session.specs.declared.session.End.{End}
