@@ -1,2 +1,4 @@
+pub mod Commands
 pub mod Digits
 pub mod Items
+pub mod Joined

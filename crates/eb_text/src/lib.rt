@@ -3,12 +3,13 @@
 
 mod fault;
 pub mod laws;
-pub mod lines;
+mod lines;
 mod numbers;
 mod status;
 mod texts;
 mod words;
 
 pub use fault::Fault;
+pub use lines::write_line;
 pub use status::Status;
 pub use words::{Words, command_of};
