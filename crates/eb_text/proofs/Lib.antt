@@ -2,3 +2,4 @@ pub mod Commands
 pub mod Digits
 pub mod Items
 pub mod Joined
+pub mod Tables

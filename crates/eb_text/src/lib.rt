@@ -1,6 +1,7 @@
 //! The words of the commands, and the texts that the program writes.
 #![tactic(auto)]
 
+mod build;
 mod fault;
 pub mod laws;
 mod lines;

@@ -44,7 +44,7 @@ fn rule_text(rule: Why) -> &'static [u8]
 }
 
 // Writes a text and the end of its line.
-fn put_line<K: Sink>(text: &[u8], sink: &mut K) -> bool
+pub fn put_line<K: Sink>(text: &[u8], sink: &mut K) -> bool
     ensures writes { WritesAll (K.writing sink.old) (K.writing sink.new) (line text.now) result }
     ensures beside { K.beside_writes sink.new ≡ K.beside_writes sink.old }
 {
@@ -52,7 +52,7 @@ fn put_line<K: Sink>(text: &[u8], sink: &mut K) -> bool
 }
 
 // Writes a line of four texts.
-fn put_line_of<K: Sink>(
+pub fn put_line_of<K: Sink>(
     first: &[u8],
     second: &[u8],
     third: &[u8],
