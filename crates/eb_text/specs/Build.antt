@@ -2,6 +2,7 @@
 use Rattle.std.specs.Prelude.{ℕ, zero, suc, ◌/◌, List, [], ◌∷◌, ◌++◌, length, take, drop, codes, decimal}
 use Rattle.hex.specs.Hex.{encode_upper}
 use Rattle.soc_journal.specs.Text.{line, digits_16}
+use Rattle.sdb_build.specs.declared.image.Image.{Image}
 
 -- how many records of 64 octets there are
 abbrev pub record_count : List ℕ → ℕ
@@ -19,3 +20,8 @@ table_line at count = line (codes "table " ++ digits_16 at ++ codes " " ++ decim
 -- a table: its line, and its records
 abbrev pub table_text : ℕ → List ℕ → List ℕ
 table_text at octets = table_line at (record_count octets) ++ record_lines (record_count octets) octets
+
+-- the tables of all buses
+abbrev pub build_text : List Image → List ℕ
+build_text [] = []
+build_text (image ∷ images) = table_text image.at image.octets ++ build_text images

@@ -1,13 +1,14 @@
-// Writes the tables of a description.
+// Writes the SDB tables of a description as text.
 ghost use Rattle.std.specs.Prelude.{◌≡◌, ◌*◌, length};
 ghost use Rattle.hex.specs.Hex.{encode_upper};
 ghost use Rattle.eb_io.specs.Writing.{WritesAll};
 ghost use Rattle.soc_journal.specs.Text.{digits_16, line};
-ghost use Rattle.eb_text.specs.Build.{record_count, record_lines, table_line, table_text};
+ghost use Rattle.eb_text.specs.Build.{build_text, record_count, record_lines, table_line, table_text};
 
 use crate::lines::{put_line, put_line_of};
 use eb_io::Sink;
 use itoa::Buffer;
+use sdb_build::Image;
 
 // The octets of an SDB record.
 const RECORD_LEN: usize = 64;
@@ -73,4 +74,19 @@ fn write_table<K: Sink>(at: u64, octets: &[u8], sink: &mut K) -> bool
 {
     let count = (octets.len() / RECORD_LEN) as u64;
     write_table_line(at, count, sink) && write_records(octets, sink)
+}
+
+/// Writes the tables of a description as text: for each bus a line `table ADDRESS COUNT`, ADDRESS being the absolute address of
+/// its table in 16 hexadecimal digits and COUNT the number of its records in decimal, and then each record as 128 digits on a
+/// line. At `false` a write failed, and a front of the text went out before it. It takes no memory.
+pub fn write_build<K: Sink>(images: &[Image], sink: &mut K) -> bool
+    ensures writes { WritesAll (K.writing sink.old) (K.writing sink.new) (build_text images.now) result }
+    ensures beside { K.beside_writes sink.new ≡ K.beside_writes sink.old }
+{
+    for image in images {
+        if !write_table(image.at, image.octets.as_slice(), sink) {
+            return false;
+        }
+    }
+    true
 }

@@ -10,6 +10,7 @@ mod status;
 mod texts;
 mod words;
 
+pub use build::write_build;
 pub use fault::Fault;
 pub use lines::write_line;
 pub use status::Status;
