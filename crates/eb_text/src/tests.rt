@@ -1,6 +1,8 @@
 use super::*;
+use eb_base::Octets;
 use eb_codec::Why;
 use eb_io::MemSink;
+use sdb_build::Image;
 use soc_desc::{DescFault, Path};
 use std::alloc::{AllocError, Global};
 use std::process::Abort;
@@ -147,4 +149,25 @@ fn refusals_have_lines(rt: HostRuntime) -> Result<(), Fail> {
     expect_line(&rt, alloc, overlap, Status::DESCRIPTION, line)?;
     let memory = Fault::Description(DescFault::NoMemory);
     expect_line(&rt, alloc, memory, Status::NO_MEMORY, "no memory\n")
+}
+
+#[test]
+fn tables_have_lines(rt: HostRuntime) -> Result<(), Fail> {
+    let alloc = rt.alloc();
+    let mut images = Vec::new(alloc);
+    let octets = Octets::of(vec![in alloc; 0xAB; 128]?);
+    images.push(Image {
+        at: 0x30000,
+        octets,
+    })?;
+    images.push(Image {
+        at: 0x28000,
+        octets: Octets::of(Vec::new(alloc)),
+    })?;
+    let mut sink = MemSink::new(alloc, 512, 3, Vec::new(alloc))?;
+    assert_eq!(rt; write_build(&images, &mut sink), true);
+    let record = "AB".repeat(alloc, 64)?;
+    let text = format!(in alloc; "table 0000000000030000 2\n{record}\n{record}\ntable 0000000000028000 0\n")?;
+    assert_eq!(rt; sink.octets(), text.as_bytes());
+    Ok(())
 }
