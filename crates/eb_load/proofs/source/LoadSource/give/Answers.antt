@@ -1,4 +1,4 @@
-use Rattle.std.proofs.Common.{◌≡◌, ◌+◌, ◌-◌, ◌≤◌, ℕ, List, take, drop, length, ap, ◌∙◌, arith}
+use Rattle.std.proofs.Common.{◌≡◌, ◌+◌, ◌-◌, ℕ, List, take, drop, ap, ◌∙◌, arith}
 use Rattle.eb_load.specs.Stream.{octets_of_records}
 use Rattle.eb_load.proofs.Piece.{given_front}
 use Rattle.eb_load.proofs.source.LoadSource.give.Goals as goal
