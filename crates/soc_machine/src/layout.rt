@@ -113,7 +113,13 @@ fn put_item(
         }
         ItemDescription::Regs { at, words, .. } => {
             let registers = Device::regs(alloc, words.as_slice())?;
-            put(places, windows, base + *at, 4 * words.len() as u64, registers)
+            put(
+                places,
+                windows,
+                base + *at,
+                4 * words.len() as u64,
+                registers,
+            )
         }
         ItemDescription::Fifo { at, depth, .. } => {
             let queue = Device::fifo(alloc, *depth)?;

@@ -17,7 +17,7 @@ use wb_signals::{Answer, Op};
 
 /// What a machine was built from.
 #[derive(Drop)]
-pub enum Origin {
+enum Origin {
     Ram(u32),
     Description(Snapshot<Description>),
 }
@@ -33,14 +33,12 @@ pub struct Machine {
 }
 
 impl Model for Machine {
-    ghost use Rattle.wb_signals.specs.Content.{Content};
-    ghost use Rattle.soc_machine.specs.Places.{contents_of};
-    ghost use Rattle.soc_machine.specs.Machine.{MachineState, wired};
-    ghost use Rattle.soc_machine.specs.Origin.{plan_of};
-    ghost use Rattle.soc_machine.specs.Routes.{IsRouted};
-
     ghost use Rattle.std.specs.Coded.{codes};
     ghost use Rattle.soc_desc.specs.contracts.description.ItemDescription as item;
+    ghost use Rattle.soc_machine.specs.Machine.{MachineState, wired};
+    ghost use Rattle.soc_machine.specs.Origin.{plan_of};
+    ghost use Rattle.soc_machine.specs.Places.{contents_of};
+    ghost use Rattle.soc_machine.specs.Routes.{IsRouted};
 
     ghost Value = { MachineState };
 
