@@ -1,5 +1,5 @@
 -- Worked captures, computed by the definitions.
-use Rattle.std.proofs.Common.{◌≡◌, ℕ, true, false, List, [], ◌∷◌, ◌++◌, length, replicate, refl}
+use Rattle.std.proofs.Common.{◌≡◌, ℕ, true, false, List, [], ◌∷◌, ◌++◌, length, map, replicate, refl}
 use Rattle.eb_base.specs.declared.width.Width.{Width}
 use Rattle.eb_base.specs.declared.width.Width.TheVariants.{W8, W16, W32, W64}
 use Rattle.eb_base.specs.Field.{octets_of, number}
@@ -17,7 +17,13 @@ use Rattle.wb_signals.specs.declared.answer.Answer.TheVariants.{Ack, Err, Rty}
 use Rattle.eb_session.specs.Cycles.{Group, cycles, given}
 use Rattle.eb_session.specs.Configuration.{config_word}
 use Rattle.eb_session.specs.Replies.{slave, replies}
-use Rattle.eb_session.specs.FirstForm.{header, items_of}
+
+-- The header of captures of whole 32-bit words, and the items of such a capture.
+abbrev header : Header
+header = record { no_reply = false; address = W32; port = W32 }
+
+abbrev items_of : List Record → List StreamItem
+items_of records = Headed header ∷ map Recorded records
 
 -- The entries of cycles that run one after another.
 abbrev entries : Wiring → List Content → List Group → List Entry

@@ -1,6 +1,6 @@
 -- A session from its beginning on: one more item.
 use Rattle.std.proofs.Common.{◌≡◌, ℕ, ◌+◌, ◌≤◌, Bool, true, false, List, [], ◌∷◌, ◌++◌, length, map, take, drop, Option, None, refl, sym, ap, ◌∙◌, subst, arith, length-append, lit<}
-use Rattle.std.proofs.lemmas.List.{append_assoc, append-nil, map-append, take-append-drop, take_at, take-append-le, drop-append-le, length-take-le}
+use Rattle.std.proofs.lemmas.List.{append_assoc, append-nil, map-append, take-append-drop, take_at, take-append-le, drop-append-le, length-take-le, length-drop}
 use Rattle.eb_base.specs.declared.width.Width.{Width}
 use Rattle.eb_codec.specs.declared.item.Header.{Header}
 use Rattle.eb_codec.specs.Stream.{header_after, header_after_all}
@@ -150,10 +150,24 @@ have_sets W64 = record { are_sets = (omega arith, omega arith); address = omega 
 pub none_pends : (bus : Width) (header : Option Header) → IsPartial (sets_of bus) header []
 none_pends bus header = is_partial (sets_of bus) header [] (have_sets bus) (λ k lt. absurd (omega arith)) (λ i. lit< tt) (omega (arith, size-ge header []))
 
+-- The replies to items take the answers to their operations alone.
+pub replies-front : (s : Slave) (header : Option Header) (e : ℕ) (xs : List StreamItem) (a b : List Answer) → count_from s.bus header xs ≤ length a → replies_from s header e xs (a ++ b) ≡ replies_from s header e xs a
+replies-front s header e [] a b le = refl
+replies-front s header e (y ∷ xs) a b le =
+    let n : ℕ = length (item_ops s.bus header y) in
+    let within : n ≤ length a = omega (arith, le) in
+    let t : take n (a ++ b) ≡ take n a = take-append-le n a b within in
+    let d : drop n (a ++ b) ≡ drop n a ++ b = drop-append-le n a b within in
+    let rest : count_from s.bus (header_after header y) xs ≤ length (drop n a) = omega (arith, le, length-drop n a) in
+    let again = replies-front s (header_after header y) (register e (take n a)) xs (drop n a) b rest in
+    ap (λ (l : List Answer). item_reply s header y l e ++ replies_from s (header_after header y) (register e l) xs (drop n (a ++ b))) t
+    ∙ ap (λ (l : List Answer). item_reply s header y (take n a) e ++ replies_from s (header_after header y) (register e (take n a)) xs l) d
+    ∙ ap (λ (l : List ℕ). item_reply s header y (take n a) e ++ l) again
+
 -- one more item that ran
 pub goes_on : (m : ℕ) (first : MasterCycles) (octets taken : List ℕ) (items : List StreamItem) (old new : Kept) (before after : MasterCycles) (entries : List Entry) (joined : List ℕ) (x : StreamItem) (answers : List Answer)
     → IsOn m first octets items old before entries joined → Ran m old new (old.progress.pending ++ taken) before after x answers
-    → (more : List Entry) × IsOn m first (octets ++ taken) (items ++ x ∷ []) new after more (joined ++ new.reply)
+    → (more : List Entry) × IsOn m first (octets ++ taken) (items ++ x ∷ []) new after more (joined ++ new.reply) × (all_given more after.opened ≡ all_given entries before.opened ++ answers)
 goes_on m first octets taken items old new before after entries joined x answers on ran =
     let bus : Width = old.slave.bus in
     let h : old.progress.header ≡ header_after_all None items = on.header in
@@ -200,4 +214,5 @@ goes_on m first octets taken items old new before after entries joined x answers
             ∙ ap (λ (l : List Answer). replies old.slave (items ++ x ∷ []) l) (sym is)
             ∙ ap (λ (s : Slave). replies s (items ++ x ∷ []) (all_given more after.opened)) (sym ran.others.0);
       },
+      is,
     )

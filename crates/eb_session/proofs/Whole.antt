@@ -78,7 +78,7 @@ waits m old new taken before after w first octets items entries joined on =
     } in
     (items, entries, subst (λ (q : Kept). IsOn m first (octets ++ taken) items q after entries (joined ++ [])) (sym w.kept) (subst (λ (c : MasterCycles). IsOn m first (octets ++ taken) items k c entries (joined ++ [])) (sym w.same) at_k))
 
-by_item : (m : ℕ) (old new : Kept) (taken : List ℕ) (before after : MasterCycles) (is_item : Bool) → FedItem m old new (old.progress.pending ++ taken) before after is_item → Goes m old before taken new.reply new after
+pub by_item : (m : ℕ) (old new : Kept) (taken : List ℕ) (before after : MasterCycles) (is_item : Bool) → FedItem m old new (old.progress.pending ++ taken) before after is_item → Goes m old before taken new.reply new after
 by_item m old new taken before after true (x, answers, ran) =
     λ first octets items entries joined on. let g = goes_on m first octets taken items old new before after entries joined x answers on ran in (items ++ x ∷ [], g.0, g.1)
 by_item m old new taken before after false w =
@@ -116,16 +116,17 @@ runs_all m first now octets joined items kept entries on =
 
 -- ---- the cycles at an end
 
--- what the master has once its open cycle was cut
-record Fits (m : ℕ) (s : Slave) (first after : MasterCycles) (items : List StreamItem) (joined : List ℕ) (errors : ℕ) (more : List Entry) : Type 0 where
-  made : after.made ≡ first.made ++ more
-  mine : All (λ e. e.master ≡ m) more
-  fit : Fit s.bus items more
-  replied : joined ≡ replies s items (given more)
-  register_is : errors ≡ register 0 (given more)
+-- what the master has once its open cycle was cut, whose answers were these
+pub record Fits (m : ℕ) (s : Slave) (first after : MasterCycles) (items : List StreamItem) (joined : List ℕ) (errors : ℕ) (answers : List Answer) (more : List Entry) : Type 0 where
+  pub made : after.made ≡ first.made ++ more
+  pub mine : All (λ e. e.master ≡ m) more
+  pub fit : Fit s.bus items more
+  pub replied : joined ≡ replies s items (given more)
+  pub register_is : errors ≡ register 0 (given more)
+  pub all : given more ≡ answers
 
-cut_by : (m : ℕ) (first before after : MasterCycles) (octets joined : List ℕ) (items : List StreamItem) (kept : Kept) (entries : List Entry) (l : List Pair) → l ≡ before.opened → IsOn m first octets items kept before entries joined
-    → after.made ≡ cut_with m before.made l → (more : List Entry) × Fits m kept.slave first after items joined kept.errors more
+pub cut_by : (m : ℕ) (first before after : MasterCycles) (octets joined : List ℕ) (items : List StreamItem) (kept : Kept) (entries : List Entry) (l : List Pair) → l ≡ before.opened → IsOn m first octets items kept before entries joined
+    → after.made ≡ cut_with m before.made l → (more : List Entry) × Fits m kept.slave first after items joined kept.errors (all_given entries before.opened) more
 cut_by m first before after octets joined items kept entries [] is on made =
     let none : [] ≡ (cut_of kept.slave.bus items).opened = ap requests_of is ∙ on.opened in
     let all : all_given entries before.opened ≡ given entries = ap (λ (p : List Pair). given entries ++ answers_of p) (sym is) ∙ append-nil (given entries) in (
@@ -136,6 +137,7 @@ cut_by m first before after octets joined items kept entries [] is on made =
         fit = on.whole ∙ sym (append-nil (cut_of kept.slave.bus items).whole) ∙ ap (λ (r : List Request). (cut_of kept.slave.bus items).whole ++ group true r) none;
         replied = on.replied ∙ ap (replies kept.slave items) all;
         register_is = on.errors ∙ ap (register 0) all;
+        all = sym all;
       },
     )
 cut_by m first before after octets joined items kept entries (p ∷ l) is on made =
@@ -150,6 +152,7 @@ cut_by m first before after octets joined items kept entries (p ∷ l) is on mad
         fit = map-append marked entries (e ∷ []) ∙ ap (λ (d : List Group). d ++ group true (requests_of (p ∷ l))) on.whole ∙ ap (λ (r : List Request). (cut_of kept.slave.bus items).whole ++ group true r) some;
         replied = on.replied ∙ ap (replies kept.slave items) all;
         register_is = on.errors ∙ ap (register 0) all;
+        all = sym all;
       },
     )
 

@@ -2,8 +2,6 @@ pub mod Operations
 pub mod Cycles
 pub mod Configuration
 pub mod Replies
-pub mod FirstForm
-pub mod OnRam
 pub mod Shown
 pub mod Keeping
 pub mod Course

@@ -8,7 +8,7 @@ ghost use Rattle.eb_session.specs.Shown.{ShowsRecord, answered_to};
 ghost use Rattle.eb_codec.specs.Decoding.{record_in};
 ghost use Rattle.eb_session.specs.Keeping.{Asks, is_some, made_with};
 
-use crate::record_shown::{address, value, write_base};
+use crate::shown::{address, value, write_base};
 use eb_base::{NoMemory, Width, place};
 use eb_codec::{Decoder, Header, RecordHead};
 use std::alloc::Global;

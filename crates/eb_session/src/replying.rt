@@ -10,7 +10,7 @@ ghost use Rattle.eb_session.specs.Replies.{slave, answer_word, read_word, record
 
 use crate::configuration::config;
 use crate::operations::{RCA, WCA};
-use crate::record_shown::{address, return_base};
+use crate::shown::{address, return_base};
 use eb_base::{Width, word};
 use eb_codec::encoding::{put, put_field, put_zeros};
 use eb_codec::sizes::{trailing, unit_len};

@@ -1,37 +1,50 @@
-// What the record that a decoder shows says, in words of 32 bits.
-ghost use Rattle.std.specs.Prelude.{◌≡◌, ◌<◌, slice_index};
-ghost use Rattle.eb_session.specs.OnRam.{record_in, Shows};
+ghost use Rattle.std.specs.Prelude.{◌≡◌, ◌<◌, ◌^◌, slice_index};
+ghost use Rattle.eb_base.specs.Width.{octets};
+ghost use Rattle.eb_session.specs.Shown.{ShowsRecord};
+ghost use Rattle.eb_codec.specs.Decoding.{record_in};
 
-use eb_codec::{Decoder, RecordHead};
+use eb_codec::{Decoder, Header, RecordHead};
 
-pub fn write_base(decoder: &Decoder, head: RecordHead) -> u32
-    requires { Shows decoder.now head }
-    ensures { result ≡ (record_in decoder.now.shown).write_base }
+// What the record that was just given says.
+
+/// The base address of its writes.
+pub fn write_base(decoder: &Decoder, header: Header, head: RecordHead) -> u64
+    requires shows { ShowsRecord decoder.now header head }
+    ensures value { result ≡ (record_in decoder.now.shown).write_base }
 {
+    let _fits = header.no_reply;
     let _head = head.flags;
-    decoder.write_base() as u32
+    decoder.write_base()
 }
 
-pub fn return_base(decoder: &Decoder, head: RecordHead) -> u32
-    requires { Shows decoder.now head }
-    ensures { result ≡ (record_in decoder.now.shown).return_base }
+/// The base address of its reply.
+pub fn return_base(decoder: &Decoder, header: Header, head: RecordHead) -> u64
+    requires shows { ShowsRecord decoder.now header head }
+    ensures value { result ≡ (record_in decoder.now.shown).return_base }
+    ensures most { result < 256 ^ octets header.address }
 {
+    let _fits = header.no_reply;
     let _head = head.flags;
-    decoder.return_base() as u32
+    decoder.return_base()
 }
 
-pub fn value(decoder: &Decoder, head: RecordHead, i: usize) -> u32
-    requires shows { Shows decoder.now head }
+/// A value that it writes.
+pub fn value(decoder: &Decoder, header: Header, head: RecordHead, i: usize) -> u64
+    requires shows { ShowsRecord decoder.now header head }
     requires inside { i < head.writes }
-    ensures { result ≡ slice_index (record_in decoder.now.shown).values i }
+    ensures value { result ≡ slice_index (record_in decoder.now.shown).values i }
+    ensures most { result < 256 ^ octets header.port }
 {
-    decoder.value(i) as u32
+    let _fits = header.no_reply;
+    decoder.value(i)
 }
 
-pub fn address(decoder: &Decoder, head: RecordHead, i: usize) -> u32
-    requires shows { Shows decoder.now head }
+/// An address that it reads.
+pub fn address(decoder: &Decoder, header: Header, head: RecordHead, i: usize) -> u64
+    requires shows { ShowsRecord decoder.now header head }
     requires inside { i < head.reads }
-    ensures { result ≡ slice_index (record_in decoder.now.shown).addresses i }
+    ensures value { result ≡ slice_index (record_in decoder.now.shown).addresses i }
 {
-    decoder.address(i) as u32
+    let _fits = header.no_reply;
+    decoder.address(i)
 }

@@ -1,78 +1,143 @@
-ghost use Rattle.std.specs.Prelude.{◌≡◌, ◌+◌, ◌*◌, ◌<◌, ◌≤◌, length};
+ghost use Rattle.std.specs.Prelude.{◌≡◌, ◌<◌, ◌+◌, ◌^◌, false, length};
+ghost use Rattle.eb_base.specs.declared.width.Width.TheVariants.{W32};
 
 use super::*;
-use std::alloc::{AllocError, Global};
+use eb_base::{NoMemory, Width};
+use eb_codec::Why;
+use std::alloc::Global;
 use std::test::Fail;
+use wb_signals::{Answer, Master, Op};
 
-// A word is written at 0x10 and read back.
-const CAPTURE: [u8; 28] = [
-    0x4E, 0x6F, 0x10, 0x44, 0x08, 0x0F, 0x01, 0x00, 0x00, 0x00, 0x00, 0x10, 0xDE, 0xAD, 0xBE, 0xEF,
-    0x88, 0x0F, 0x00, 0x01, 0x00, 0x00, 0x00, 0x00, 0x00, 0x00, 0x00, 0x10,
-];
+// A master that has no memory for any record.
+#[derive(Drop)]
+struct NoRoom;
 
-const REPLY: [u8; 16] = [
-    0x4E, 0x6F, 0x14, 0x44, 0x0C, 0x0F, 0x01, 0x00, 0x00, 0x00, 0x00, 0x00, 0xDE, 0xAD, 0xBE, 0xEF,
-];
+impl Master for NoRoom {
+    ghost use Rattle.std.specs.Prelude.{[]};
+    ghost use Rattle.eb_base.specs.declared.width.Width.TheVariants.{W32};
 
-#[test]
-fn word_written_and_read(rt: HostRuntime) -> Result<(), Fail> {
-    let mut session = FirstSession::new(rt.alloc(), 4096).ok().ok_or("session")?;
-    let mut reply = Vec::new(rt.alloc());
-    let run = session.run(rt.alloc(), &CAPTURE, &mut reply).ok();
-    assert!(rt; run == Some(true));
-    assert_eq!(rt; reply.as_slice(), REPLY.as_slice());
-    Ok(())
-}
+    ghost bus = { λ s. W32 };
 
-#[test]
-fn no_captures(rt: HostRuntime) -> Result<(), Fail> {
-    let mut session = FirstSession::new(rt.alloc(), 16).ok().ok_or("session")?;
-    let mut reply = Vec::from_slice(rt.alloc(), &[1, 2])?;
-    let cut = session.run(rt.alloc(), &CAPTURE[..27], &mut reply).ok();
-    assert!(rt; cut == Some(false));
-    let part = session.run(rt.alloc(), &CAPTURE[..2], &mut reply).ok();
-    assert!(rt; part == Some(false));
-    assert_eq!(rt; reply.as_slice(), [1, 2].as_slice());
-    let header = session.run(rt.alloc(), &CAPTURE[..4], &mut reply).ok();
-    assert!(rt; header == Some(true));
-    assert_eq!(rt; reply.as_slice(), [1, 2, 0x4E, 0x6F, 0x14, 0x44].as_slice());
-    Ok(())
-}
+    ghost number = { λ s. 0 };
 
-// Appends words of 32 bits that rise from 0 by so much.
-fn put_rising(octets: &mut Vec<u8>, count: u8, step: u8) -> Result<(), AllocError> {
-    for i in 0..count {
-        let word = u32::from(i) * u32::from(step);
-        octets.extend_from_slice(&word.to_be_bytes())?;
+    ghost Kept = { Unit {0} };
+
+    ghost kept = { λ s. tt };
+
+    ghost made = { λ s. [] };
+
+    ghost opened = { λ s. [] };
+
+    ghost answered = { λ s. [] };
+
+    fn record(&mut self, _: Global, _: &[Op], _: bool) -> Result<(), NoMemory> {
+        Err(NoMemory)
     }
+
+    fn answers(&self) -> usize {
+        0
+    }
+
+    fn answer(&self, _: usize) -> Answer {
+        unreachable!()
+    }
+
+    fn cut(&mut self) {
+        unreachable!()
+    }
+
+    fn is_open(&self) -> bool {
+        false
+    }
+}
+
+// Feeds a piece with one item and then another piece.
+fn feed_two(alloc: Global, session: &mut Session, first: &[u8], second: &[u8]) -> Result<Fed, End>
+    requires width { session.old.slave.bus ≡ W32 }
+    requires closed { session.old.opened ≡ false }
+    requires fewer { session.old.progress.start + length session.old.progress.pending + length first.now + length second.now < 2 ^ 64 }
+    ensures closed { session.new.opened ≡ false }
+{
+    let mut master = NoRoom;
+    session.feed(alloc, &mut master, first)?;
+    session.feed(alloc, &mut master, second)
+}
+
+// The error register and the root table's address, read from configuration space: the bus isn't asked.
+#[test]
+fn root_address(rt: HostRuntime) -> Result<(), Fail> {
+    let mut session = Session::new(rt.alloc(), Width::W32, 0x30000)
+        .ok()
+        .ok_or("session")?;
+    let octets = [
+        0xC8, 0x0F, 0x00, 0x02, 0x00, 0x00, 0x00, 0x00, 0x00, 0x00, 0x00, 0x08, 0x00, 0x00, 0x00,
+        0x0C,
+    ];
+    let fed = feed_two(rt.alloc(), &mut session, &[0x4E, 0x6F, 0x10, 0x44], &octets)
+        .ok()
+        .ok_or("record")?;
+    assert_eq!(rt; fed.taken, 16);
+    let reply = [
+        0x0C, 0x0F, 0x02, 0x00, 0x00, 0x00, 0x00, 0x00, 0x00, 0x00, 0x00, 0x00, 0x00, 0x03, 0x00,
+        0x00,
+    ];
+    assert_eq!(rt; session.reply(), reply.as_slice());
+    assert_eq!(rt; session.errors(), 0);
+    assert!(rt; matches!(session.finish(&mut NoRoom), End::Clean));
     Ok(())
 }
 
-// A record that writes the numbers 0 to 254 to the words from 0 on, and reads them.
-fn longest_capture(alloc: Global) -> Result<Vec<u8>, AllocError> {
-    let head = [
-        0x4E, 0x6F, 0x10, 0x44, 0x88, 0x0F, 0xFF, 0xFF, 0x00, 0x00, 0x00, 0x00,
+// A record for which the master has no memory ends the session, and the end stays.
+#[test]
+fn no_memory_for_a_record(rt: HostRuntime) -> Result<(), Fail> {
+    let mut session = Session::new(rt.alloc(), Width::W32, 0)
+        .ok()
+        .ok_or("session")?;
+    let octets = [
+        0x08, 0x0F, 0x01, 0x00, 0x00, 0x00, 0x00, 0x10, 0xDE, 0xAD, 0xBE, 0xEF,
     ];
-    let mut octets = Vec::from_slice(alloc, &head)?;
-    put_rising(&mut octets, 255, 1)?;
-    octets.extend_from_slice(&[0, 0, 0, 0])?;
-    put_rising(&mut octets, 255, 4)?;
-    Ok(octets)
+    let end = feed_two(rt.alloc(), &mut session, &[0x4E, 0x6F, 0x10, 0x44], &octets)
+        .err()
+        .ok_or("end")?;
+    assert!(rt; matches!(end, End::NoMemory));
+    assert_eq!(rt; session.reply().len(), 0);
+    assert!(rt; matches!(session.finish(&mut NoRoom), End::NoMemory));
+    Ok(())
 }
 
+// An octet that no record has there.
 #[test]
-fn longest_record(rt: HostRuntime) -> Result<(), Fail> {
-    let mut session = FirstSession::new(rt.alloc(), 4096).ok().ok_or("session")?;
-    let capture = longest_capture(rt.alloc())?;
-    assert_eq!(rt; capture.len(), 4 + 2052);
-    let mut reply = Vec::new(rt.alloc());
-    let run = session.run(rt.alloc(), &capture, &mut reply).ok();
-    assert!(rt; run == Some(true));
-    let head = [
-        0x4E, 0x6F, 0x14, 0x44, 0x0C, 0x0F, 0xFF, 0x00, 0x00, 0x00, 0x00, 0x00,
-    ];
-    let mut expected = Vec::from_slice(rt.alloc(), &head)?;
-    put_rising(&mut expected, 255, 1)?;
-    assert_eq!(rt; reply.as_slice(), expected.as_slice());
+fn wrong_byte_enable(rt: HostRuntime) -> Result<(), Fail> {
+    let mut session = Session::new(rt.alloc(), Width::W32, 0)
+        .ok()
+        .ok_or("session")?;
+    let end = feed_two(
+        rt.alloc(),
+        &mut session,
+        &[0x4E, 0x6F, 0x10, 0x44],
+        &[0x08, 0x1F],
+    )
+    .err()
+    .ok_or("end")?;
+    assert!(rt; matches!(end, End::Malformed(5, Why::Beyond)));
+    Ok(())
+}
+
+// The answer to a probe.
+#[test]
+fn probe_answered(rt: HostRuntime) -> Result<(), Fail> {
+    let mut session = Session::new(rt.alloc(), Width::W32, 0)
+        .ok()
+        .ok_or("session")?;
+    let probe = [0x4E, 0x6F, 0x11, 0xFF, 0x00, 0x00, 0x00, 0x07];
+    let fed = session
+        .feed(rt.alloc(), &mut NoRoom, &probe)
+        .ok()
+        .ok_or("probe")?;
+    assert!(rt; fed.item);
+    assert_eq!(rt;
+        session.reply(),
+        [0x4E, 0x6F, 0x16, 0xF7, 0x00, 0x00, 0x00, 0x07].as_slice()
+    );
     Ok(())
 }
