@@ -1,0 +1,25 @@
+-- The texts that the program shows.
+use Rattle.std.specs.Prelude.{ℕ, List, [], ◌++◌, codes}
+use Rattle.soc_journal.specs.Text.{line}
+
+-- what `--version` shows
+abbrev pub version_text : List ℕ
+version_text = line (codes "eb 0.1.0")
+
+-- what `--help` shows
+abbrev pub help_text : List ℕ
+help_text =
+    line (codes "eb answers captures of Etherbone streams on a Wishbone bus.")
+    ++ line []
+    ++ line (codes "  eb answer --ram N CAPTURE   answer the octets in the file CAPTURE on a RAM of")
+    ++ line (codes "                              N octets, a multiple of 4 from 4 to 1048576")
+    ++ line (codes "  eb answer DESC CAPTURE      answer them on the bus that the file DESC describes")
+    ++ line (codes "  eb build DESC               show the SDB tables of that bus")
+    ++ line (codes "  eb load START N             answer N cycles, at most 100000, made from START,")
+    ++ line (codes "                              which is below 2147483648, on a RAM of 65536 octets")
+    ++ line (codes "  eb --help                   show this text")
+    ++ line (codes "  eb --version                show the version")
+    ++ line []
+    ++ line (codes "Replies and texts go to standard output. The status is 0, or with a line on")
+    ++ line (codes "standard error: 2 usage, 3 description refused, 4 read fault, 5 write fault,")
+    ++ line (codes "6 malformed, 7 truncated, 12 too long, 13 no memory.")

@@ -1,0 +1,32 @@
+/// The status of the program.
+#[derive(Clone, Copy, Debug, PartialEq, Eq)]
+pub struct Status(pub u8);
+
+impl Status {
+    /// The input was read to its end, and all output was written.
+    pub const OK: Status = Status(0);
+
+    /// The words are no command.
+    pub const USAGE: Status = Status(2);
+
+    /// The description is refused.
+    pub const DESCRIPTION: Status = Status(3);
+
+    /// An open or a read failed.
+    pub const READ_FAULT: Status = Status(4);
+
+    /// A write to the output failed.
+    pub const WRITE_FAULT: Status = Status(5);
+
+    /// The stream has a bad octet.
+    pub const MALFORMED: Status = Status(6);
+
+    /// The input ended inside an item.
+    pub const TRUNCATED: Status = Status(7);
+
+    /// The stream has more octets than are read.
+    pub const TOO_LONG: Status = Status(12);
+
+    /// There was no memory.
+    pub const NO_MEMORY: Status = Status(13);
+}

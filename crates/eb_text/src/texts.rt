@@ -1,0 +1,31 @@
+// The texts that the program shows.
+ghost use Rattle.std.specs.Prelude.{◌≡◌};
+ghost use Rattle.eb_text.specs.Texts.{help_text, version_text};
+
+// What `--help` shows.
+pub fn help() -> &'static [u8]
+    ensures text { result.now ≡ help_text }
+{
+    b"eb answers captures of Etherbone streams on a Wishbone bus.
+
+  eb answer --ram N CAPTURE   answer the octets in the file CAPTURE on a RAM of
+                              N octets, a multiple of 4 from 4 to 1048576
+  eb answer DESC CAPTURE      answer them on the bus that the file DESC describes
+  eb build DESC               show the SDB tables of that bus
+  eb load START N             answer N cycles, at most 100000, made from START,
+                              which is below 2147483648, on a RAM of 65536 octets
+  eb --help                   show this text
+  eb --version                show the version
+
+Replies and texts go to standard output. The status is 0, or with a line on
+standard error: 2 usage, 3 description refused, 4 read fault, 5 write fault,
+6 malformed, 7 truncated, 12 too long, 13 no memory.
+"
+}
+
+// What `--version` shows.
+pub fn version() -> &'static [u8]
+    ensures text { result.now ≡ version_text }
+{
+    b"eb 0.1.0\n"
+}
