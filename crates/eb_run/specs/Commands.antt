@@ -49,6 +49,10 @@ pub record Summed (start cycles : ℕ) (text : List ℕ) : Type 0 where
   pub legal : IsLegal (ram_system 65536).wiring (ram_system 65536).contents entries
   pub text_is : text ≡ summary_text (summary entries (length (load_octets start cycles)) (length (replies (ram_system 65536).slave (load_items start cycles) (given entries))))
 
+-- what answering a generated stream came to
+abbrev pub LoadRuns : Writing → Writing → ℕ → ℕ → Result ⊤ Fault → Type 0
+LoadRuns out out' start cycles result = HasNoRoom out out' result ⊎ ((text : List ℕ) × Summed start cycles text × Writes text out out' result)
+
 -- what a command came to
 abbrev pub Runs : {F : Type 0} → (F → Reading) → Outside F → Outside F → Writing → Writing → Command → Result ⊤ Fault → Type 0
 Runs reading world world' out out' (AnswerRam octets capture) result = AnswersFile reading world world' out out' capture (ram_system octets) result
@@ -57,5 +61,5 @@ Runs reading world world' out out' (Answer description capture) result =
 Runs reading world world' out out' (Build description) result =
     WithDescription reading world world' out out' description (λ d between. (world' ≡ between) × (HasNoRoom out out' result ⊎ Writes (build_text (images_of d)) out out' result)) result
 Runs reading world world' out out' (Load start cycles) result =
-    (world' ≡ world) × (HasNoRoom out out' result ⊎ ((text : List ℕ) × Summed start cycles text × Writes text out out' result))
+    (world' ≡ world) × LoadRuns out out' start cycles result
 Runs reading world world' out out' (Show text) result = (world' ≡ world) × Writes text out out' result

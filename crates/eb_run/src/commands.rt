@@ -1,26 +1,18 @@
 // The commands, behind their words.
 ghost use Rattle.std.specs.Prelude.{◌≡◌, ◌<◌, ◌≤◌, ◌^◌, ◌%◌, map, string_bytes};
 ghost use Rattle.eb_text.specs.Words.{AnswerRam, Answer, Build, Load, Show, IsRamSize};
-ghost use Rattle.eb_run.specs.Commands.{Runs, Writes};
+ghost use Rattle.eb_run.specs.Commands.{Runs};
+ghost use Rattle.eb_run.specs.Steps.{result_of_write};
 ghost use Rattle.eb_run.specs.Top.{RunsWords};
 
 use crate::board::Board;
 use crate::files::read_description;
 use crate::streams::answer_file;
-use eb_base::NoMemory;
-use eb_io::{MemSink, Sink, World, put_all};
-use eb_load::{LoadSource, Summary};
-use eb_server::Ending;
-use eb_text::{Fault, Words, command_of, write_build};
+use crate::stub::{build_machine, command_of, images, load, write_build};
+use eb_io::{Sink, World, put_all};
+use eb_text::{Fault, Words};
 use soc_machine::Machine;
 use std::alloc::Global;
-
-// How many octets the RAM of a generated stream has.
-const LOAD_RAM: u32 = 65_536;
-
-// The most octets that a header, and a record of a generated stream, are answered by.
-const HEADER_REPLY: usize = 4;
-const RECORD_REPLY: usize = 24;
 
 // `answer --ram N CAPTURE`
 fn answer_ram<W: World, O: Sink>(
@@ -33,8 +25,12 @@ fn answer_ram<W: World, O: Sink>(
     requires size { IsRamSize octets }
     ensures runs { Runs W.File.reading (W.outside world.old) (W.outside world.new) (O.writing out.old) (O.writing out.new) (AnswerRam octets capture.now) result }
 {
-    let machine = Machine::ram(alloc, octets)?;
-    let mut board = Board::new(alloc, machine, 0)?;
+    let Ok(machine) = Machine::ram(alloc, octets) else {
+        return Err(Fault::NoMemory);
+    };
+    let Ok(mut board) = Board::new(alloc, machine, 0) else {
+        return Err(Fault::NoMemory);
+    };
     answer_file(alloc, capture, world, &mut board, out)
 }
 
@@ -49,8 +45,12 @@ fn answer<W: World, O: Sink>(
     ensures runs { Runs W.File.reading (W.outside world.old) (W.outside world.new) (O.writing out.old) (O.writing out.new) (Answer description.now capture.now) result }
 {
     let described = read_description(alloc, description, world)?;
-    let machine = Machine::build(alloc, &described)?;
-    let mut board = Board::new(alloc, machine, described.bus.sdb)?;
+    let Ok(machine) = build_machine(alloc, &described) else {
+        return Err(Fault::NoMemory);
+    };
+    let Ok(mut board) = Board::new(alloc, machine, described.bus.sdb) else {
+        return Err(Fault::NoMemory);
+    };
     answer_file(alloc, capture, world, &mut board, out)
 }
 
@@ -64,29 +64,16 @@ fn build<W: World, O: Sink>(
     ensures runs { Runs W.File.reading (W.outside world.old) (W.outside world.new) (O.writing out.old) (O.writing out.new) (Build description.now) result }
 {
     let described = read_description(alloc, description, world)?;
-    let images = sdb_build::images(alloc, &described)?;
+    let Ok(images) = images(alloc, &described) else {
+        return Err(Fault::NoMemory);
+    };
     written(write_build(&images, out))
 }
 
-// `load START N`
-fn load<O: Sink>(alloc: Global, start: u32, cycles: u32, out: &mut O) -> Result<(), Fault> {
-    let machine = Machine::ram(alloc, LOAD_RAM)?;
-    let mut board = Board::new(alloc, machine, 0)?;
-    let room = HEADER_REPLY + RECORD_REPLY * cycles as usize;
-    let mut replies = MemSink::new(alloc, room, usize::MAX, Vec::new(alloc))?;
-    let mut source = LoadSource::new(start, cycles);
-    match board.serve(alloc, &mut source, &mut replies) {
-        Ending::Clean => {
-            let octets_out = replies.octets().len() as u64;
-            let summary = Summary::of(board.journal(), source.given(), octets_out);
-            written(summary.write(out))
-        }
-        _ => Err(Fault::NoMemory),
-    }
-}
-
 // What a command answers after its text was written, or not.
-fn written(all: bool) -> Result<(), Fault> {
+fn written(all: bool) -> Result<(), Fault>
+    ensures result { result ≡ result_of_write all }
+{
     if all { Ok(()) } else { Err(Fault::WriteFault) }
 }
 

@@ -67,7 +67,7 @@ pub fn read_description<W: World>(
         Opened::NoMemory => Err(Fault::NoMemory),
         Opened::Done => match read_last_file(alloc, world) {
             Gathered::All(octets) => described(alloc, &octets),
-            Gathered::Longer => Err(Fault::Description(DescFault::TooMany(Path::root(alloc)))),
+            Gathered::Longer => Err(Fault::Description(DescFault::TooMany(Path::of(Vec::new(alloc))))),
             Gathered::Failed => Err(Fault::ReadFault),
             Gathered::NoMemory => Err(Fault::NoMemory),
         },

@@ -6,9 +6,8 @@ mod commands;
 mod files;
 mod plain;
 mod streams;
+mod stub;
 
-pub use eb_text::{Fault, Status, write_line};
+pub use eb_text::{Fault, Status};
 pub use plain::{Family, family_of, run_plain};
 
-#[cfg(test)]
-mod tests;

@@ -1,4 +1,4 @@
-ghost use Rattle.std.specs.Prelude.{◌≡◌, ◌↔◌, ◌⊎◌, [], ◌∷◌, List, ℕ, Bool, Ok, Err, map, string_bytes, Contains};
+ghost use Rattle.std.specs.Prelude.{◌≡◌, ◌↔◌, ◌⊎◌, [], ◌∷◌, List, ℕ, Bool, Ok, Err, Result, ⊤, map, string_bytes, Contains};
 ghost use Rattle.eb_io.specs.Counts.{Rose};
 ghost use Rattle.eb_codec.specs.declared.item.Why.{Why};
 ghost use Rattle.soc_desc.specs.declared.fault.DescFault.{DescFault};
@@ -10,7 +10,8 @@ ghost use Rattle.eb_run.specs.Top.{ForCommand, RunsWords, Tells, NothingFails, s
 
 use crate::commands::run_words;
 use eb_io::{Sink, World};
-use eb_text::{Status, write_line};
+use crate::stub::{fault_status, write_line};
+use eb_text::Status;
 use std::alloc::Global;
 
 /// What a command waits for.
@@ -69,7 +70,7 @@ pub fn run_plain<W: World, O: Sink, E: Sink>(
         ForCommand (map string_bytes words.now) (λ c. Runs W.File.reading (W.outside world.old) (W.outside world.new) (O.writing out.old) (O.writing out.new) c (Err fault.WriteFault)) }
 
     // The stream has its first bad octet at this place.
-    ensures malformed { result ≡ Status.MALFORMED → (place : ℕ) (why : Why)
+    ensures malformed { result ≡ Status.MALFORMED → (place : ℕ) × (why : Why)
         × ForCommand (map string_bytes words.now) (λ c. Runs W.File.reading (W.outside world.old) (W.outside world.new) (O.writing out.old) (O.writing out.new) c (Err (fault.Malformed place why)))
         × Tells (E.writing err.old) (E.writing err.new) (Err (fault.Malformed place why)) }
 
@@ -101,7 +102,7 @@ pub fn run_plain<W: World, O: Sink, E: Sink>(
         Ok(()) => Status::OK,
         Err(fault) => {
             let _ = write_line(&fault, err);
-            fault.status()
+            fault_status(&fault)
         }
     }
 }
