@@ -1,0 +1,4 @@
+pub mod Endings
+pub mod Serving
+pub mod Piece
+pub mod Laws
