@@ -1,2 +1,5 @@
+pub mod Commands
 pub mod Digits
 pub mod Items
+pub mod Joined
+pub mod Tables

@@ -58,13 +58,21 @@ rule_text why.Beyond = codes "byte enable beyond the port"
 rule_text why.NoEnable = codes "no byte enabled"
 rule_text why.NoReply = codes "read without reply"
 
+-- where a stream breaks a rule first, and which
+abbrev pub malformed_line : ℕ → Why → List ℕ
+malformed_line place rule = line (codes "malformed at " ++ decimal place ++ codes ": " ++ rule_text rule)
+
+-- how many octets of an item there were as the input ended
+abbrev pub truncated_line : ℕ → List ℕ
+truncated_line octets = line (codes "truncated after " ++ decimal octets ++ codes " octets of an item")
+
 -- the line of each ending
 abbrev pub line_of : Fault → List ℕ
 line_of fault.Usage = line (codes "usage")
 line_of (fault.Description refused) = refusal_line refused
 line_of fault.ReadFault = line (codes "read fault")
 line_of fault.WriteFault = line (codes "write fault")
-line_of (fault.Malformed place rule) = line (codes "malformed at " ++ decimal place ++ codes ": " ++ rule_text rule)
-line_of (fault.Truncated octets) = line (codes "truncated after " ++ decimal octets ++ codes " octets of an item")
+line_of (fault.Malformed place rule) = malformed_line place rule
+line_of (fault.Truncated octets) = truncated_line octets
 line_of fault.TooLong = line (codes "too long")
 line_of fault.NoMemory = line (codes "no memory")

@@ -24,7 +24,7 @@ pub enum Words<'a> {
     /// Answers so many cycles that are made from a number.
     Load { start: u32, cycles: u32 },
     /// Shows a text.
-    Show(&'a [u8]),
+    Show(&'static [u8]),
 }
 
 // `answer --ram N CAPTURE`.
@@ -52,10 +52,10 @@ fn answer_of(words: &[String]) -> Option<(&str, &str)>
     let [first, description, capture] = words else {
         return None;
     };
-    if first.as_str() != "answer" || description.as_str() == "--ram" {
+    if first.as_str() != "answer" || description.is_empty() || capture.is_empty() {
         return None;
     }
-    if description.is_empty() || capture.is_empty() {
+    if description.as_str() == "--ram" {
         return None;
     }
     Some((description.as_str(), capture.as_str()))
