@@ -2,7 +2,7 @@ ghost use Rattle.std.specs.Prelude.{◌≡◌, ◌*◌, length};
 ghost use Rattle.hex.specs.Hex.{encode_upper};
 ghost use Rattle.soc_journal.specs.Text.{digits_16, digits_2};
 
-// A number in 16 hexadecimal digits.
+/// A number in 16 hexadecimal digits, in upper case.
 pub fn digits_16(n: u64) -> [u8; 16]
     ensures value { result ≡ digits_16 n }
 {

@@ -1,0 +1,4 @@
+pub mod Piece
+pub mod Drawing
+pub mod Spelled
+pub mod Counting

@@ -1,0 +1,4 @@
+pub mod Draws
+pub mod Stream
+pub mod LoadSource
+pub mod Summary
