@@ -106,6 +106,10 @@ table_records bus = (bus_tables bus).records
 abbrev pub image_of : BusDescription → List ℕ
 image_of bus = octets_of (table_records bus)
 
+-- the ROM of a bus with this base, at its absolute address
+abbrev pub image_at : BusDescription → ℕ → Image
+image_at bus base = record { at = base + (bus_tables bus).sdb; octets = image_of bus }
+
 -- the images of a bus with this base and of all buses under it, in pre-order, each at its absolute address
 abbrev pub bus_images : BusDescription → ℕ → List Image
 bus_images bus base = (bus_tables bus).images base

@@ -2,5 +2,11 @@
 #![tactic(auto)]
 
 pub mod image;
+mod records;
+mod tables;
 
-pub use image::Image;
+pub use image::{Image, images};
+pub use tables::table;
+
+#[cfg(test)]
+mod tests;

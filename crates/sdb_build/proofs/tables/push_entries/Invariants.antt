@@ -1,0 +1,10 @@
+use Rattle.std.proofs.Common.{◌≡◌, ◌++◌, map, drop}
+use Rattle.sdb_build.specs.Tables.{octets_of, entries, item_tables}
+use Rattle.sdb_build.specs.Sound.{AreSoundItems}
+use Rattle.sdb_build.proofs.tables.push_entries.Given as goal
+
+abbrev pub invariant-loop-item : goal.invariant-loop-item
+invariant-loop-item l = record {
+  sound : AreSoundItems 0 (drop l.item-index l.items);
+  written : l.out.items ++ octets_of (entries l.width (map item_tables (drop l.item-index l.items))) ≡ l.fn.out.items ++ octets_of (entries l.fn.width (map item_tables l.fn.items));
+}
