@@ -14,3 +14,5 @@ mod summary;
 pub use source::LoadSource;
 pub use summary::Summary;
 
+#[cfg(test)]
+mod tests;

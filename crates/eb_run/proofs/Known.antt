@@ -161,7 +161,7 @@ pub same_description : {F : Type 0} (reading : F → Reading) (old new : Outside
     → described octets ≡ Ok d → HoldsDescription (reading read.file) other → other ≡ d
 same_description reading old new name octets d other read is holds =
     let again = read_all reading old new name octets other read holds in
-    let both : Ok {E = _} other ≡ Ok d = sym again ∙ is in
+    let both : ◌≡◌ {A = Found Description} (Ok other) (Ok d) = sym again ∙ is in
     cc
 
 -- how the reading of a description ends where nothing fails

@@ -1,5 +1,5 @@
 -- What the result of a command says of its status.
-use Rattle.std.proofs.Common.{◌≡◌, ◌≢◌, ◌⊎◌, inl, inr, ℕ, ◌<◌, List, [], ◌∷◌, ◌++◌, Option, Some, None, Result, Ok, Err, refl, sym, ◌∙◌, ap, subst, arith}
+use Rattle.std.proofs.Common.{◌≡◌, ◌≢◌, ◌⊎◌, inl, inr, ℕ, ◌<◌, List, [], ◌∷◌, ◌++◌, Option, Some, None, Result, Ok, Err, refl, sym, ◌∙◌, ap, subst, arith, rules}
 use Rattle.std.specs.Prelude.{◌↔◌, Contains, All, ⊤}
 use Rattle.std.proofs.lemmas.List.{append_assoc}
 use Rattle.eb_io.specs.Counts.{Rose}
@@ -24,6 +24,10 @@ use Rattle.eb_run.specs.Top.{ForCommand, RunsWords, Refused, Tells, NothingFails
 use Rattle.eb_run.proofs.Numbers.{kind, kind_is, IsReal, is_ok, is_usage, is_description, is_read_fault, is_write_fault, is_malformed, is_truncated, is_too_long, is_no_memory}
 use Rattle.eb_run.proofs.Known.{Ends, EndsReading, answers_fine, reads_fine, writes_fine, same_description}
 
+-- Words have one command at most.
+pub one_command : OneCommand
+one_command words command other is other_is = search rules
+
 no_reading : (f : Fault) → EndsReading (Err f) → f ≡ fault.NoMemory
 no_reading fault.NoMemory ends = refl
 no_reading fault.Usage ends = absurd ends
@@ -36,7 +40,7 @@ no_reading fault.TooLong ends = absurd ends
 
 -- a fault of a description that was read isn't want of memory
 real_of : {F : Type 0} (reading : F → Reading) (old new : Outside F) (name : List ℕ) (f : DescFault) (other : Fault)
-    → Err (fault.Description f) ≡ Err {A = ⊤} other → ReadsDescription reading old new name (Err other) → f ≢ desc.NoMemory
+    → ◌≡◌ {A = Result ⊤ Fault} (Err (fault.Description f)) (Err other) → ReadsDescription reading old new name (Err other) → f ≢ desc.NoMemory
 real_of reading old new name f other is reads =
     let same : other ≡ fault.Description f = cc in
     (subst (λ (g : Fault). ReadsDescription reading old new name (Err g)) same reads).3
@@ -44,11 +48,11 @@ real_of reading old new name f other is reads =
 module _ {F : Type 0} (reading : F → Reading) (world world' : Outside F) (out out' : Writing) where
   real_run : (c : Command) (f : DescFault) → Runs reading world world' out out' c (Err (fault.Description f)) → f ≢ desc.NoMemory
   real_run (AnswerRam octets capture) f ran = absurd ran
-  real_run (Answer description capture) f (inl ran) = real_of reading world world' description f ran.0 ran.1 ran.2
-  real_run (Answer description capture) f (inr ran) = absurd ran.3
-  real_run (Build description) f (inl ran) = real_of reading world world' description f ran.0 ran.1 ran.2
-  real_run (Build description) f (inr (d, between, reads, (same, inl none))) = let e = none.0 in cc
-  real_run (Build description) f (inr (d, between, reads, (same, inr writes))) = absurd writes
+  real_run (Answer name capture) f (inl ran) = real_of reading world world' name f ran.0 ran.1 ran.2
+  real_run (Answer name capture) f (inr ran) = absurd ran.3
+  real_run (Build name) f (inl ran) = real_of reading world world' name f ran.0 ran.1 ran.2
+  real_run (Build name) f (inr (d, between, reads, (same, inl none))) = let e = none.0 in cc
+  real_run (Build name) f (inr (d, between, reads, (same, inr writes))) = absurd writes
   real_run (Load start cycles) f (same, inl none) = let e = none.0 in cc
   real_run (Load start cycles) f (same, inr (text, summed, writes)) = absurd writes
   real_run (Show text) f (same, writes) = absurd writes
@@ -185,18 +189,18 @@ module _ {F : Type 0} (reading : F → Reading) (world world' : Outside F) (out 
     ends : (c : Command) (r : Result ⊤ Fault) → Runs reading world world' out out' c r → ((opened : List F) → world'.files ≡ world.files ++ opened → HoldWhatItWants reading c opened) → Ends r
     ends (AnswerRam octets capture) r ran good =
         answers_fine reading world world' out out' capture (ram_system octets) law no_open one_read no_write (λ file files. good (file ∷ []) files) r ran
-    ends (Answer description capture) r (inl (f, is, reads, same)) good = unread description r f is reads (λ file files. good (file ∷ []) files)
-    ends (Answer description capture) r (inr (d, between, (octets, read, accepted), ran)) good =
+    ends (Answer file_name capture) r (inl (f, is, reads, same)) good = unread file_name r f is reads (λ file files. good (file ∷ []) files)
+    ends (Answer file_name capture) r (inr (d, between, (octets, read, accepted), ran)) good =
         let none_open : Rose between.faults world'.faults → ⊥ = λ rose. let P : ℕ → Type 0 = λ n. Rose n world'.faults in no_open (subst P read.read.faults rose) in
         let both : (file : F) → world'.files ≡ between.files ++ file ∷ [] → world'.files ≡ world.files ++ read.file ∷ file ∷ [] = λ file files. two_files between read.file file read.read.files files in
         answers_fine reading between world' out out' capture (described_system d) law none_open (λ file files. second_read read.file file (both file files)) no_write
         (λ file files.
             let held = good (read.file ∷ file ∷ []) (both file files) in
-            subst (λ (x : Description). HoldsStream x.bus.width (reading file)) (same_description reading world between description octets d held.0 read accepted held.1) held.2)
+            subst (λ (x : Description). HoldsStream x.bus.width (reading file)) (same_description reading world between file_name octets d held.0 read accepted held.1) held.2)
         r ran
-    ends (Build description) r (inl (f, is, reads, same)) good = unread description r f is reads (λ file files. good (file ∷ []) files)
-    ends (Build description) r (inr (d, between, reads, (same, inl none))) good = inr none.0
-    ends (Build description) r (inr (d, between, reads, (same, inr writes))) good = writes_fine (build_text (images_of d)) out out' r writes no_write
+    ends (Build file_name) r (inl (f, is, reads, same)) good = unread file_name r f is reads (λ file files. good (file ∷ []) files)
+    ends (Build file_name) r (inr (d, between, reads, (same, inl none))) good = inr none.0
+    ends (Build file_name) r (inr (d, between, reads, (same, inr writes))) good = writes_fine (build_text (images_of d)) out out' r writes no_write
     ends (Load start cycles) r (same, inl none) good = inr none.0
     ends (Load start cycles) r (same, inr (text, summed, writes)) good = writes_fine text out out' r writes no_write
     ends (Show text) r (same, writes) good = writes_fine text out out' r writes no_write

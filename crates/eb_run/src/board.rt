@@ -5,8 +5,7 @@ ghost use Rattle.eb_run.specs.Board.{IsNew, IsMade, system_of, entries_of};
 
 use eb_base::{NoMemory, Width};
 use eb_io::{Sink, Source};
-use crate::stub::serve;
-use eb_server::Ending;
+use eb_server::{Ending, serve};
 use eb_session::Session;
 use soc_journal::Journal;
 use soc_machine::{Machine, PlainMaster};

@@ -2,15 +2,17 @@
 ghost use Rattle.std.specs.Prelude.{◌≡◌, ◌<◌, ◌≤◌, ◌^◌, ◌%◌, map, string_bytes};
 ghost use Rattle.eb_text.specs.Words.{AnswerRam, Answer, Build, Load, Show, IsRamSize};
 ghost use Rattle.eb_run.specs.Commands.{Runs};
-ghost use Rattle.eb_run.specs.Steps.{result_of_write};
 ghost use Rattle.eb_run.specs.Top.{RunsWords};
 
 use crate::board::Board;
 use crate::files::read_description;
+use crate::load::load;
+use crate::results::written;
 use crate::streams::answer_file;
-use crate::stub::{build_machine, command_of, images, load, write_build};
+use crate::stub::build_machine;
 use eb_io::{Sink, World, put_all};
-use eb_text::{Fault, Words};
+use eb_text::{Fault, Words, command_of, write_build};
+use sdb_build::images;
 use soc_machine::Machine;
 use std::alloc::Global;
 
@@ -68,13 +70,6 @@ fn build<W: World, O: Sink>(
         return Err(Fault::NoMemory);
     };
     written(write_build(&images, out))
-}
-
-// What a command answers after its text was written, or not.
-fn written(all: bool) -> Result<(), Fault>
-    ensures result { result ≡ result_of_write all }
-{
-    if all { Ok(()) } else { Err(Fault::WriteFault) }
 }
 
 /// Runs the command that the words are.

@@ -4,7 +4,9 @@
 mod board;
 mod commands;
 mod files;
+mod load;
 mod plain;
+mod results;
 mod streams;
 mod stub;
 

@@ -3,6 +3,7 @@ ghost use Rattle.eb_io.specs.Counts.{Rose};
 ghost use Rattle.eb_codec.specs.declared.item.Why.{Why};
 ghost use Rattle.soc_desc.specs.declared.fault.DescFault.{DescFault};
 ghost use Rattle.eb_text.specs.Words.{IsCommand, IsNoCommand, Show};
+ghost use Rattle.eb_text.specs.declared.fault.Fault.{Fault};
 ghost use Rattle.eb_text.specs.declared.fault.Fault.TheVariants as fault;
 ghost use Rattle.eb_run.specs.Family.{family};
 ghost use Rattle.eb_run.specs.Commands.{Runs};
@@ -10,8 +11,7 @@ ghost use Rattle.eb_run.specs.Top.{ForCommand, RunsWords, Tells, NothingFails, s
 
 use crate::commands::run_words;
 use eb_io::{Sink, World};
-use crate::stub::{fault_status, write_line};
-use eb_text::Status;
+use eb_text::{Fault, Status, write_line};
 use std::alloc::Global;
 
 /// What a command waits for.
@@ -31,6 +31,20 @@ pub fn family_of(words: &[String]) -> Family
 {
     let _ = words;
     Family::Plain
+}
+
+// The status of a result, whose fault is told on standard error.
+fn tell<E: Sink>(ran: &Result<(), Fault>, err: &mut E) -> Status
+    ensures status { result ≡ status_of ran.now }
+    ensures tells { Tells (E.writing err.old) (E.writing err.new) ran.now }
+{
+    match ran {
+        Ok(()) => Status::OK,
+        Err(fault) => {
+            let _ = write_line(fault, err);
+            fault.status()
+        }
+    }
 }
 
 /// Runs the command that the words are, over the files of a world, with what it writes going to `out` and the line of
@@ -98,11 +112,6 @@ pub fn run_plain<W: World, O: Sink, E: Sink>(
     // Standard error gets the line of the fault, all of it unless a write there fails, and nothing where there is none.
     ensures told { (r : Result ⊤ Fault) × (result ≡ status_of r) × Tells (E.writing err.old) (E.writing err.new) r }
 {
-    match run_words(alloc, words, world, out) {
-        Ok(()) => Status::OK,
-        Err(fault) => {
-            let _ = write_line(&fault, err);
-            fault_status(&fault)
-        }
-    }
+    let ran = run_words(alloc, words, world, out);
+    tell(&ran, err)
 }

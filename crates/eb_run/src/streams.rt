@@ -2,28 +2,14 @@
 ghost use Rattle.std.specs.Prelude.{◌≡◌, ◌<◌, length};
 ghost use Rattle.eb_run.specs.Board.{IsNew, system_of, entries_of};
 ghost use Rattle.eb_run.specs.Streams.{ServedOn, AnswersFile};
-ghost use Rattle.eb_run.specs.Steps.{ChangesLast, ChangesLastFile, result_of};
+ghost use Rattle.eb_run.specs.Steps.{ChangesLast, ChangesLastFile};
 
 use crate::board::Board;
+use crate::results::result_of;
 use eb_io::{Opened, Sink, Source, World};
 use eb_server::Ending;
 use eb_text::Fault;
 use std::alloc::Global;
-
-// What a command answers after a stream has ended so.
-fn result_of(ending: Ending) -> Result<(), Fault>
-    ensures result { result ≡ result_of ending }
-{
-    match ending {
-        Ending::Clean => Ok(()),
-        Ending::Truncated(count) => Err(Fault::Truncated(count)),
-        Ending::Malformed(place, why) => Err(Fault::Malformed(place, why)),
-        Ending::ReadFault => Err(Fault::ReadFault),
-        Ending::WriteFault => Err(Fault::WriteFault),
-        Ending::TooLong => Err(Fault::TooLong),
-        Ending::NoMemory => Err(Fault::NoMemory),
-    }
-}
 
 // Serves the last of the files.
 fn serve_last<F: Source + Drop, O: Sink>(
