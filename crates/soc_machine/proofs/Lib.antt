@@ -1,3 +1,12 @@
 pub mod RamLemmas
 pub mod PlainLemmas
 pub mod RunLemmas
+pub mod PartLemmas
+pub mod WindowLemmas
+pub mod ItemLemmas
+pub mod FoldLemmas
+pub mod ImageLemmas
+pub mod DescribedLemmas
+pub mod LayoutLemmas
+pub mod RouteLemmas
+pub mod StepLemmas

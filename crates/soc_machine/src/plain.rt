@@ -29,7 +29,12 @@ impl Model for PlainMaster {
     ghost use Rattle.std.specs.Prelude.{◌≢◌, ◌≤◌, []};
     ghost use Rattle.soc_machine.specs.Plain.{PlainState, IsPlain, plain};
 
+    ghost use Rattle.std.specs.Coded.{codes};
+    ghost use Rattle.soc_desc.specs.contracts.description.ItemDescription as item;
+
     ghost Value = { PlainState };
+
+    ghost coded = { Prim.hlevel (codes, item.the_row.coded) };
 
     ghost view = { λ p. plain p.began.value p.machine p.number p.journal.entries p.opened.items p.answers.items };
 
