@@ -1,5 +1,5 @@
 -- A text that goes out in two parts.
-use Rattle.std.proofs.Common.{◌≡◌, ℕ, List, ◌++◌, Bool, true, false, sym, subst}
+use Rattle.std.proofs.Common.{◌≡◌, ℕ, List, ◌++◌, Bool, true, false, subst}
 use Rattle.eb_io.specs.Writing.{Writing, Took, WroteFront, WritesAll}
 use Rattle.soc_journal.proofs.WentLemmas.{failed_first, writes_on}
 

@@ -1,5 +1,5 @@
 -- How the records of a table go out one by one.
-use Rattle.std.proofs.Common.{◌≡◌, ℕ, suc, ◌≤◌, List, ◌++◌, length, take, drop, length-drop, arith, refl, ap, subst}
+use Rattle.std.proofs.Common.{◌≡◌, ℕ, suc, ◌≤◌, List, ◌++◌, length, take, drop, length-drop, arith, ap, subst}
 use Rattle.hex.specs.Hex.{encode_upper}
 use Rattle.eb_io.specs.Writing.{Writing, Took, WroteFront}
 use Rattle.eb_io.proofs.PutAll.{Went}

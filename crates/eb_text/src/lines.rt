@@ -70,7 +70,13 @@ fn write_refusal<K: Sink>(reason: &[u8], path: &Path, sink: &mut K) -> bool
     ensures writes { WritesAll (K.writing sink.old) (K.writing sink.new) (refusal reason.now path.now) result }
     ensures beside { K.beside_writes sink.new ≡ K.beside_writes sink.old }
 {
-    put_line_of(b"description refused: ", reason, b" ", path.as_slice(), sink)
+    put_line_of(
+        b"description refused: ",
+        reason,
+        b" ", // also before an empty path
+        path.as_slice(),
+        sink,
+    )
 }
 
 // Writes that two places meet.

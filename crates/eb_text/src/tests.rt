@@ -167,7 +167,9 @@ fn tables_have_lines(rt: HostRuntime) -> Result<(), Fail> {
     let mut sink = MemSink::new(alloc, 512, 3, Vec::new(alloc))?;
     assert_eq!(rt; write_build(&images, &mut sink), true);
     let record = "AB".repeat(alloc, 64)?;
-    let text = format!(in alloc; "table 0000000000030000 2\n{record}\n{record}\ntable 0000000000028000 0\n")?;
+    let text = format!(in alloc;
+        "table 0000000000030000 2\n{record}\n{record}\ntable 0000000000028000 0\n"
+    )?;
     assert_eq!(rt; sink.octets(), text.as_bytes());
     Ok(())
 }

@@ -13,16 +13,24 @@ const MOST_CYCLES: u32 = 100_000;
 #[derive(Clone, Copy, Debug, PartialEq, Eq)]
 pub enum Words<'a> {
     /// Answers a capture on a RAM of so many octets.
-    AnswerRam { octets: u32, capture: &'a str },
+    AnswerRam {
+        octets: u32,
+        capture: &'a str,
+    },
     /// Answers a capture on a described bus.
     Answer {
         description: &'a str,
         capture: &'a str,
     },
     /// Shows the tables of a described bus.
-    Build { description: &'a str },
+    Build {
+        description: &'a str,
+    },
     /// Answers so many cycles that are made from a number.
-    Load { start: u32, cycles: u32 },
+    Load {
+        start: u32,
+        cycles: u32,
+    },
     /// Shows a text.
     Show(&'static [u8]),
 }

@@ -1,4 +1,4 @@
-use Rattle.std.proofs.Common.{◌≡◌, ℕ, List, refl, ap, ◌∙◌, arith}
+use Rattle.std.proofs.Common.{ℕ, List, refl, ap, ◌∙◌, arith}
 use Rattle.sdb_build.specs.declared.image.Image.{Image}
 use Rattle.eb_text.specs.Build.{table_text, build_text}
 use Rattle.soc_journal.proofs.WentLemmas.{went_item, failed_item}

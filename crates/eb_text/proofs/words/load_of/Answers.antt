@@ -1,4 +1,4 @@
-use Rattle.std.proofs.Common.{◌≡◌, [], ◌∷◌, ◌<◌, ◌^◌, map, arith, rules, codes, string_bytes, sym, ◌∙◌, ap}
+use Rattle.std.proofs.Common.{◌≡◌, [], ◌∷◌, map, arith, rules, codes, string_bytes, sym, ◌∙◌, ap}
 use Rattle.eb_text.proofs.Items.{three_items}
 use Rattle.eb_text.proofs.words.load_of.Goals as goal
 
