@@ -1,13 +1,12 @@
 -- The octets of a generated stream, and what they spell.
-use Rattle.std.proofs.Common.{◌≡◌, ℕ, zero, suc, ◌+◌, ◌-◌, ◌*◌, ◌/◌, ◌%◌, ◌^◌, ◌<◌, ◌≤◌, List, [], ◌∷◌, ◌++◌, length, None, Some, refl, sym, ap, ◌∙◌, arith, append_assoc, length-append}
+use Rattle.std.proofs.Common.{◌≡◌, ℕ, zero, suc, ◌+◌, ◌*◌, ◌%◌, ◌^◌, ◌<◌, ◌≤◌, List, [], ◌∷◌, ◌++◌, length, Some, refl, sym, ap, ◌∙◌, arith, append_assoc, length-append}
 use Rattle.std.specs.List.{flat_map, All}
 use Rattle.std.proofs.lemmas.List.{append-nil}
 use Rattle.std.proofs.lemmas.List.Elements.{All-nil, All-cons}
 use Rattle.eb_base.specs.declared.width.Width.TheVariants.{W32}
 use Rattle.eb_base.specs.Field.{octets_of}
 use Rattle.eb_base.proofs.FieldLemmas.{length-octets_of}
-use Rattle.eb_codec.specs.declared.item.Record.{Record}
-use Rattle.eb_codec.specs.Form.{zeroed, field, part, record_form, FitsRecord, KeepsRules}
+use Rattle.eb_codec.specs.Form.{zeroed, field, part, FitsRecord, KeepsRules}
 use Rattle.eb_codec.specs.Stream.{SpellsAll, Spells, Recorded}
 use Rattle.eb_codec.specs.Sizes.{gap}
 use Rattle.eb_codec.specs.Reading.{part_octets, body_octets}

@@ -29,7 +29,7 @@ fn put_values(out: &mut Piece, draws: &mut Draws, count: u32)
     ensures len { array_vec_len out.new ≡ array_vec_len out.old + 4 * count }
     ensures draws { draws.new ≡ after (2 * count) draws.old }
 {
-    for i in 0..count {
+    for _ in 0..count {
         let high = draws.draw();
         let low = draws.draw();
         put_number(out, high * 65_536 + low);
@@ -43,7 +43,7 @@ fn put_addresses(out: &mut Piece, draws: &mut Draws, count: u32)
     ensures len { array_vec_len out.new ≡ array_vec_len out.old + 4 * count }
     ensures draws { draws.new ≡ after count draws.old }
 {
-    for i in 0..count {
+    for _ in 0..count {
         let word = draws.draw();
         put_number(out, 4 * (word % 16_384));
     }

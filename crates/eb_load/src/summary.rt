@@ -73,16 +73,15 @@ fn totals_of_pair(pair: &Pair) -> Totals
     if pair.op.write {
         Totals {
             writes: 1,
-            reads: 0,
             errors,
-            sum: 0,
+            ..NOTHING
         }
     } else {
         Totals {
-            writes: 0,
             reads: 1,
             errors,
             sum: word_in(pair.answer),
+            ..NOTHING
         }
     }
 }

@@ -1,3 +1,5 @@
+ghost use Rattle.std.specs.Prelude.{◌<◌, ◌≤◌};
+
 use super::*;
 use eb_base::NoMemory;
 use eb_io::{Got, MemSink, Source};
@@ -11,7 +13,7 @@ const ONE_RECORD: [u8; 24] = [
     0x00, 0x00, 0x00, 0x00, 0x00, 0x00, 0x08, 0x7c,
 ];
 
-// The second of two records has two values and four addresses.
+// The first record has three values and two addresses, the second four values and one address.
 const TWO_RECORDS: [u8; 68] = [
     0x4e, 0x6f, 0x10, 0x44, 0x88, 0x0f, 0x03, 0x02, 0x00, 0x00, 0x59, 0xf8, 0x44, 0x6b, 0x79, 0x4b,
     0x15, 0xfb, 0x59, 0xe2, 0x1c, 0xfb, 0x3f, 0x54, 0x00, 0x00, 0x00, 0x00, 0x00, 0x00, 0x3f, 0xd8,
@@ -55,26 +57,124 @@ fn octets_of(alloc: Global, start: u32, records: u32, size: usize) -> Result<Vec
     Ok(octets)
 }
 
-fn pair(write: bool, dat: u64, answer: Answer) -> Pair
-    requires read { write ≡ false → dat ≡ 0 }
-    requires word { dat < 2 ^ 64 }
-{
+fn write(answer: Answer) -> Pair {
     Pair {
         op: Op {
-            write,
-            adr: 0,
-            dat,
-            sel: 0xff,
+            write: true,
+            adr: 8,
+            dat: 9,
+            sel: 0xf,
         },
         answer,
     }
 }
 
+fn read(answer: Answer) -> Pair {
+    Pair {
+        op: Op {
+            write: false,
+            adr: 8,
+            dat: 0,
+            sel: 0xf,
+        },
+        answer,
+    }
+}
+
+// Two cycles, whose reads and refusals differ in number from their writes.
+fn two_cycles(alloc: Global) -> Result<Journal, NoMemory> {
+    let mut first = Pairs::of(Vec::new(alloc));
+    first.push(write(Answer::Ack(0)))?;
+    first.push(read(Answer::Ack(5)))?;
+    first.push(read(Answer::Err))?;
+    let mut second = Pairs::of(Vec::new(alloc));
+    second.push(write(Answer::Rty))?;
+    second.push(read(Answer::Ack(u64::MAX)))?;
+    let mut journal = Journal::new(alloc);
+    journal.reserve(2)?;
+    journal.push(Entry {
+        master: 0,
+        cut: false,
+        pairs: first,
+    });
+    journal.push(Entry {
+        master: 0,
+        cut: true,
+        pairs: second,
+    });
+    Ok(journal)
+}
+
 #[test]
 fn octets_in_any_rooms(rt: HostRuntime) -> Result<(), Fail> {
     let alloc = rt.alloc();
-    assert_eq!(rt; octets_of(alloc, 0, 1, 1)?.as_slice(), ONE_RECORD.as_slice());
-    assert_eq!(rt; octets_of(alloc, 0, 1, 3)?.as_slice(), ONE_RECORD.as_slice());
-    assert_eq!(rt; octets_of(alloc, 1, 2, 64)?.as_slice(), TWO_RECORDS.as_slice());
+    assert_eq!(rt;
+        octets_of(alloc, 0, 1, 1)?.as_slice(),
+        ONE_RECORD.as_slice()
+    );
+    assert_eq!(rt;
+        octets_of(alloc, 0, 1, 3)?.as_slice(),
+        ONE_RECORD.as_slice()
+    );
+    assert_eq!(rt;
+        octets_of(alloc, 1, 2, 64)?.as_slice(),
+        TWO_RECORDS.as_slice()
+    );
+    Ok(())
+}
+
+#[test]
+fn counts_of_two_cycles(rt: HostRuntime) -> Result<(), Fail> {
+    let alloc = rt.alloc();
+    let summary = Summary::of(&two_cycles(alloc)?, 60, 40);
+    let expected = Summary {
+        cycles: 2,
+        writes: 2,
+        reads: 3,
+        octets_in: 60,
+        octets_out: 40,
+        errors: 2,
+        sum: 4,
+    };
+    assert_eq!(rt; summary, expected);
+    Ok(())
+}
+
+#[test]
+fn text_of_an_empty_run(rt: HostRuntime) -> Result<(), Fail> {
+    let alloc = rt.alloc();
+    let summary = Summary::of(&Journal::new(alloc), 4, 4);
+    let mut sink = MemSink::new(alloc, 100, 7, Vec::new(alloc))?;
+    assert!(rt; summary.write(&mut sink));
+    assert_eq!(rt; sink.octets(), EMPTY_RUN);
+    Ok(())
+}
+
+#[test]
+fn text_of_one_cycle(rt: HostRuntime) -> Result<(), Fail> {
+    let alloc = rt.alloc();
+    let mut pairs = Pairs::of(Vec::new(alloc));
+    pairs.push(write(Answer::Ack(0)))?;
+    pairs.push(read(Answer::Ack(0)))?;
+    let mut journal = Journal::new(alloc);
+    journal.reserve(1)?;
+    journal.push(Entry {
+        master: 0,
+        cut: false,
+        pairs,
+    });
+    let mut sink = MemSink::new(alloc, 100, 100, Vec::new(alloc))?;
+    assert!(rt; Summary::of(&journal, 24, 16).write(&mut sink));
+    assert_eq!(rt; sink.octets(), ONE_CYCLE);
+    Ok(())
+}
+
+#[test]
+fn a_write_that_fails(rt: HostRuntime) -> Result<(), Fail> {
+    let alloc = rt.alloc();
+    let summary = Summary::of(&Journal::new(alloc), 4, 4);
+    let mut sink = MemSink::new(alloc, 100, 10, Vec::from_slice(alloc, &[1])?)?;
+    assert!(rt; !summary.write(&mut sink));
+    assert_eq!(rt; sink.octets(), b"cycles 0\nw".as_slice());
     Ok(())
 }

@@ -5,9 +5,9 @@ use Rattle.eb_load.specs.Stream.{values_from}
 use Rattle.eb_load.proofs.Drawing.{octets_of_all}
 use Rattle.eb_load.proofs.record.put_values.Given as goal
 
-abbrev pub invariant-loop-i : goal.invariant-loop-i
-invariant-loop-i l = record {
-  items : l.out.items ++ octets_of_all (values_from (l.count - l.i) l.draws) ≡ l.initial.out.items ++ octets_of_all (values_from l.count l.initial.draws);
-  len : array_vec_len l.out ≡ array_vec_len l.initial.out + 4 * l.i;
-  draws : after (2 * (l.count - l.i)) l.draws ≡ after (2 * l.count) l.initial.draws;
+abbrev pub invariant-loop : goal.invariant-loop
+invariant-loop l = record {
+  items : l.out.items ++ octets_of_all (values_from (l.count - l.counter) l.draws) ≡ l.initial.out.items ++ octets_of_all (values_from l.count l.initial.draws);
+  len : array_vec_len l.out ≡ array_vec_len l.initial.out + 4 * l.counter;
+  draws : after (2 * (l.count - l.counter)) l.draws ≡ after (2 * l.count) l.initial.draws;
 }
