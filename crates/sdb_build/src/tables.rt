@@ -1,8 +1,9 @@
 //! The octets of a table.
-ghost use Rattle.std.specs.Prelude.{◌≡◌, ◌++◌, map, IfOk, OnOk};
+ghost use Rattle.std.specs.Prelude.{◌≡◌, ◌+◌, ◌*◌, ◌++◌, length, map, vec_len, IfOk, OnOk};
 ghost use Rattle.sdb_record.specs.Layout.{wishbone};
 ghost use Rattle.sdb_record.specs.Relation.{IsValid, encoded};
 ghost use Rattle.soc_desc.specs.Accepted.{IsSoundBus};
+ghost use Rattle.soc_desc.specs.declared.description.ItemDescription.TheViews.{out-BusDescription};
 ghost use Rattle.sdb_build.specs.Tables.{octets_of, entries, item_tables, image_of};
 ghost use Rattle.sdb_build.specs.Sound.{AreSoundItems};
 
@@ -17,7 +18,8 @@ const RECORD_LEN: usize = 64;
 
 fn push_record(out: &mut Vec<u8>, value: &Record) -> Result<(), AllocError>
     requires { IsValid value.now }
-    ensures { OnOk result (out.new.items ≡ out.old.items ++ encoded wishbone value.now) }
+    ensures octets { OnOk result (out.new.items ≡ out.old.items ++ encoded wishbone value.now) }
+    ensures len { OnOk result (vec_len out.new ≡ vec_len out.old + 64) }
 {
     out.extend_from_slice(&encode(value))
 }
@@ -28,7 +30,8 @@ fn push_entries(
     items: &[ItemDescription],
 ) -> Result<(), AllocError>
     requires { AreSoundItems 0 items.now }
-    ensures { OnOk result (out.new.items ≡ out.old.items ++ octets_of (entries width (map item_tables items.now))) }
+    ensures octets { OnOk result (out.new.items ≡ out.old.items ++ octets_of (entries width (map item_tables items.now))) }
+    ensures len { OnOk result (vec_len out.new ≡ vec_len out.old + 64 * length items.now) }
 {
     for item in items {
         push_record(out, &entry(width, item))?;
@@ -41,6 +44,7 @@ fn push_entries(
 pub fn table(alloc: Global, bus: &BusDescription) -> Result<Vec<u8>, NoMemory>
     requires sound { IsSoundBus bus.now }
     ensures octets { IfOk result (λ v. v.items ≡ image_of bus.now) }
+    ensures len { let b = out-BusDescription bus.now in IfOk result (λ v. vec_len v ≡ 64 * (length b.items + 1)) }
 {
     let mut out = Vec::with_capacity(alloc, RECORD_LEN * (bus.items.len() + 1))?;
     push_record(&mut out, &interconnect(bus))?;

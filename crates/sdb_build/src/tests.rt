@@ -71,7 +71,7 @@ fn table_of_soc(rt: HostRuntime) -> Result<(), Fail> {
     };
     let octets = table(alloc, &soc.bus).ok().ok_or("memory")?;
     assert_eq!(rt; octets.len(), 7 * 64);
-    assert_eq!(rt; &octets[..64], &ROOT[..]);
+    assert_eq!(rt; &octets[0..64], &ROOT[..]);
     assert_eq!(rt; &octets[64..128], &RAM[..]);
     assert_eq!(rt; &octets[256..264], [0, 0, 0, 0, 0, 2, 0x80, 0].as_slice());
     Ok(())

@@ -7,8 +7,7 @@ use Rattle.sdb_build.proofs.tables.table.Goals as goal
 pub push_entries-requires : goal.push_entries-requires
 push_entries-requires c = subst (λ is. AreSoundItems 0 is) (sym c.as_slice.ensures) (items_sound_at_0 c.args.bus.now c.requires.sound)
 
-pub returns : goal.returns
-returns c = record {
-  octets = table_is c.args.bus.now c.in_ok-out.out.items c.push_record.new.out.items c.push_entries.new.out.items c.interconnect.result c.as_slice.result.now
-      c.in_ok-out.ensures.items c.interconnect.ensures.value c.in_ok-push_record.ensures c.as_slice.ensures c.in_ok-push_entries.ensures;
-}
+pub returns-clause-octets : goal.returns-clause-octets
+returns-clause-octets c =
+    table_is c.args.bus.now c.in_ok-out.out.items c.push_record.new.out.items c.push_entries.new.out.items c.interconnect.result c.as_slice.result.now
+    c.in_ok-out.ensures.items c.interconnect.ensures.value c.in_ok-push_record.ensures.octets c.as_slice.ensures c.in_ok-push_entries.ensures.octets
