@@ -1,5 +1,5 @@
 -- Streams that are spelled whole, and their only history.
-use Rattle.std.proofs.Common.{◌≡◌, ℕ, suc, length-append, ◌+◌, ◌<◌, ◌≤◌, Bool, List, [], ◌∷◌, ◌++◌, length, map, take, drop, Option, Some, None, refl, sym, ap, ◌∙◌, subst, arith, inl, inr}
+use Rattle.std.proofs.Common.{◌≡◌, ℕ, suc, length-append, ◌+◌, ◌<◌, List, [], ◌∷◌, ◌++◌, length, map, take, drop, Option, Some, None, refl, sym, ap, ◌∙◌, subst, arith, inl, inr}
 use Rattle.std.specs.Prelude.{◌⊎◌}
 use Rattle.std.specs.List.{All}
 use Rattle.std.specs.Io.KnownBytes.{prepend_known, IsAtEnd}
@@ -13,14 +13,13 @@ use Rattle.eb_codec.proofs.OneReading.{longer}
 use Rattle.wb_signals.specs.Request.{Request}
 use Rattle.wb_signals.specs.Content.{Content}
 use Rattle.wb_signals.specs.Wiring.{Wiring}
-use Rattle.wb_signals.specs.History.{Pair, Entry, requests_of, cycle, contents_after, IsLegal}
+use Rattle.wb_signals.specs.History.{Entry, requests_of, cycle, contents_after, IsLegal}
 use Rattle.eb_session.specs.Cycles.{Group, marked, given}
 use Rattle.eb_session.specs.Replies.{Slave, sets_of, replies}
 use Rattle.eb_session.specs.Keeping.{MasterCycles}
-use Rattle.eb_session.specs.Course.{HasNoBad}
 use Rattle.eb_server.specs.declared.ending.Ending.{Ending}
 use Rattle.eb_server.specs.declared.ending.Ending.TheVariants as ending
-use Rattle.eb_server.specs.Serving.{Served, most_octets, WasRead, HaveRun, WereAnswered}
+use Rattle.eb_server.specs.Serving.{most_octets, WasRead, HaveRun, WereAnswered}
 use Rattle.eb_server.specs.Laws.{NoBadBefore, WholeStream, OneReply}
 
 pub no_bad_before : NoBadBefore

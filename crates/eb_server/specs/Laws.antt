@@ -1,7 +1,6 @@
 -- What holds of every stream that is served.
 use Rattle.std.specs.Prelude.{◌≡◌, ◌⊎◌, ℕ, ◌<◌, List, ◌++◌, length, All, None, Some}
 use Rattle.eb_base.specs.declared.width.Widths.{Widths}
-use Rattle.eb_base.specs.declared.width.Width.{Width}
 use Rattle.eb_io.specs.Counts.{Rose}
 use Rattle.eb_io.specs.Reading.{Reading}
 use Rattle.eb_io.specs.Writing.{Writing}
