@@ -3,3 +3,4 @@ pub mod Each
 pub mod Inner
 pub mod Placing
 pub mod Rules
+pub mod Sound

@@ -4,3 +4,4 @@ pub mod Geometry
 pub mod Totals
 pub mod Accepted
 pub mod Described
+pub mod Sound

@@ -5,6 +5,7 @@ mod checks;
 pub mod description;
 pub mod fault;
 mod geometry;
+pub mod laws;
 pub mod path;
 mod reading;
 mod shape;

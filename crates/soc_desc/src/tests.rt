@@ -1,6 +1,7 @@
 use super::*;
 use eb_base::Width;
 use std::alloc::{AllocError, Global};
+use std::process::Abort;
 use std::test::Fail;
 
 // The example of docs/DESCRIPTION.md.
@@ -48,7 +49,7 @@ const SOC: &str = r#"{"version":1,"data":32,"depth":4,"masters":2,"bus":{
 "#;
 
 // Each row: what stands in TWO, what is written there instead, and the answer.
-static CHANGES: [(&str, &str, &str); 94] = [
+static CHANGES: [(&str, &str, &str); 98] = [
     ("\"depth\":4,", "", "missing /depth"),
     (
         "\"at\":0,",
@@ -169,6 +170,10 @@ static CHANGES: [(&str, &str, &str); 94] = [
     ("\"depth\":4", "\"depth\":-0", "kind /depth"),
     ("\"depth\":4", "\"depth\":-4", "kind /depth"),
     ("\"depth\":4", "\"depth\":true", "kind /depth"),
+    ("\"depth\":4", "\"depth\":null", "kind /depth"),
+    ("\"depth\":4", "\"depth\":\"\"", "kind /depth"),
+    ("\"depth\":4", "\"depth\":[]", "kind /depth"),
+    ("\"depth\":4", "\"depth\":{}", "kind /depth"),
     ("\"depth\":4", "\"depth\":04", "not json"),
     // other JSON types and unknown words
     ("\"bus\":{", "\"bus\":7,\"zz\":{", "unknown /zz"),
@@ -275,7 +280,7 @@ static CHANGES: [(&str, &str, &str); 94] = [
 ];
 
 // Whole texts.
-static TEXTS: [(&str, &str); 12] = [
+static TEXTS: [(&str, &str); 14] = [
     (TWO, "accepted"),
     (DEEP, "accepted"),
     (SOC, "accepted"),
@@ -285,6 +290,8 @@ static TEXTS: [(&str, &str); 12] = [
     ("[]", "kind "),
     ("null", "kind "),
     ("7", "kind "),
+    ("true", "kind "),
+    ("\"\"", "kind "),
     ("{}", "missing /version"),
     ("{\"version\":[]}", "kind /version"),
     ("{\"version\":1e999}", "not json"),
@@ -386,6 +393,102 @@ fn changed_texts(rt: HostRuntime) -> Result<(), Fail> {
             wanted,
             "{old} {new}"
         );
+    }
+    Ok(())
+}
+
+// Each row: a bus with the place of a value, the one type of value that may stand there, and the place's path. A product
+// stands at each #.
+static PLACES: [(&str, &str, &str); 16] = [
+    ("@", "{}", "/bus"),
+    ("{\"product\":@}", "{}", "/bus/product"),
+    ("{\"product\":{\"vendor\":@}}", "0", "/bus/product/vendor"),
+    (
+        "{\"product\":{\"vendor\":0,\"device\":0,\"version\":0,\"date\":0,\"name\":@}}",
+        "\"\"",
+        "/bus/product/name",
+    ),
+    ("{\"product\":#,\"last\":@}", "0", "/bus/last"),
+    ("{\"product\":#,\"last\":3,\"sdb\":@}", "0", "/bus/sdb"),
+    (
+        "{\"product\":#,\"last\":3,\"sdb\":0,\"items\":@}",
+        "[]",
+        "/bus/items",
+    ),
+    (
+        "{\"product\":#,\"last\":3,\"sdb\":0,\"items\":[@]}",
+        "{}",
+        "/bus/items/0",
+    ),
+    (
+        "{\"product\":#,\"last\":3,\"sdb\":0,\"items\":[{\"kind\":@}]}",
+        "",
+        "/bus/items/0/kind",
+    ),
+    (
+        "{\"product\":#,\"last\":3,\"sdb\":0,\"items\":[{\"kind\":\"ram\",\"product\":#,\"at\":0,\"size\":@}]}",
+        "0",
+        "/bus/items/0/size",
+    ),
+    (
+        "{\"product\":#,\"last\":3,\"sdb\":0,\"items\":[{\"kind\":\"fifo\",\"product\":#,\"at\":0,\"depth\":1,\"port\":@}]}",
+        "",
+        "/bus/items/0/port",
+    ),
+    (
+        "{\"product\":#,\"last\":3,\"sdb\":0,\"items\":[{\"kind\":\"regs\",\"product\":#,\"at\":0,\"words\":@}]}",
+        "[]",
+        "/bus/items/0/words",
+    ),
+    (
+        "{\"product\":#,\"last\":3,\"sdb\":0,\"items\":[{\"kind\":\"regs\",\"product\":#,\"at\":0,\"words\":[@]}]}",
+        "{}",
+        "/bus/items/0/words/0",
+    ),
+    (
+        "{\"product\":#,\"last\":3,\"sdb\":0,\"items\":[{\"kind\":\"regs\",\"product\":#,\"at\":0,\"words\":[{\"mode\":@}]}]}",
+        "",
+        "/bus/items/0/words/0/mode",
+    ),
+    (
+        "{\"product\":#,\"last\":3,\"sdb\":0,\"items\":[{\"kind\":\"bridge\",\"product\":#,\"at\":0,\"bus\":@}]}",
+        "{}",
+        "/bus/items/0/bus",
+    ),
+    (
+        "{\"product\":#,\"last\":3,\"sdb\":0,\"items\":[{\"kind\":\"integration\",\"product\":@}]}",
+        "{}",
+        "/bus/items/0/product",
+    ),
+];
+
+static VALUES: [&str; 6] = ["null", "false", "0", "\"\"", "[]", "{}"];
+
+// Each value of another type at one of these places.
+fn other_types<R: Abort>(
+    rt: &R,
+    alloc: Global,
+    place: &str,
+    right: &str,
+    path: &str,
+) -> Result<(), AllocError> {
+    let wanted = format!(in alloc; "kind {path}")?;
+    for value in &VALUES {
+        if *value != right {
+            let bus = place.replacen(alloc, "@", *value, 1)?;
+            let text = root_text(alloc, bus.replacen(alloc, "#", PRODUCT, 2)?.as_str())?;
+            assert_eq!(rt; answer(alloc, text.as_str())?, wanted, "{value}");
+        }
+    }
+    Ok(())
+}
+
+#[test]
+fn values_of_another_type(rt: HostRuntime) -> Result<(), Fail> {
+    let alloc = rt.alloc();
+    for row in &PLACES {
+        let (place, right, path) = *row;
+        other_types(&rt, alloc, place, right, path)?;
     }
     Ok(())
 }
