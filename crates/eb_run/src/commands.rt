@@ -9,7 +9,6 @@ use crate::files::read_description;
 use crate::load::load;
 use crate::results::written;
 use crate::streams::answer_file;
-use crate::stub::build_machine;
 use eb_io::{Sink, World, put_all};
 use eb_text::{Fault, Words, command_of, write_build};
 use sdb_build::images;
@@ -47,13 +46,13 @@ fn answer<W: World, O: Sink>(
     ensures runs { Runs W.File.reading (W.outside world.old) (W.outside world.new) (O.writing out.old) (O.writing out.new) (Answer description.now capture.now) result }
 {
     let described = read_description(alloc, description, world)?;
-    let Ok(machine) = build_machine(alloc, &described) else {
+    let Ok(machine) = Machine::build(alloc, &described) else {
         return Err(Fault::NoMemory);
     };
-    let Ok(mut board) = Board::new(alloc, machine, described.bus.sdb) else {
+    let Ok(mut slave) = Board::new(alloc, machine, described.bus.sdb) else {
         return Err(Fault::NoMemory);
     };
-    answer_file(alloc, capture, world, &mut board, out)
+    answer_file(alloc, capture, world, &mut slave, out)
 }
 
 // `build DESC`
@@ -65,8 +64,8 @@ fn build<W: World, O: Sink>(
 ) -> Result<(), Fault>
     ensures runs { Runs W.File.reading (W.outside world.old) (W.outside world.new) (O.writing out.old) (O.writing out.new) (Build description.now) result }
 {
-    let described = read_description(alloc, description, world)?;
-    let Ok(images) = images(alloc, &described) else {
+    let found = read_description(alloc, description, world)?;
+    let Ok(images) = images(alloc, &found) else {
         return Err(Fault::NoMemory);
     };
     written(write_build(&images, out))

@@ -8,8 +8,10 @@ mod load;
 mod plain;
 mod results;
 mod streams;
-mod stub;
 
-pub use eb_text::{Fault, Status};
+pub use eb_text::{Fault, Status, write_line};
 pub use plain::{Family, family_of, run_plain};
 
+
+#[cfg(test)]
+mod tests;
