@@ -1,3 +1,4 @@
+pub mod Giving
 pub mod Piece
 pub mod Drawing
 pub mod Spelled

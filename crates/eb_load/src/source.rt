@@ -1,4 +1,4 @@
-ghost use Rattle.std.specs.Prelude.{None, Some, ◌≡◌, ◌≢◌, ◌<◌, ◌≤◌, ◌++◌, length, take};
+ghost use Rattle.std.specs.Prelude.{Some, IfSome, [], ◌≡◌, ◌≢◌, ◌<◌, ◌≤◌, ◌^◌, ◌++◌, length, take, drop};
 ghost use Rattle.eb_io.specs.Reading.{Reads};
 ghost use Rattle.eb_load.specs.Stream.{load_octets};
 
@@ -9,26 +9,35 @@ use eb_io::{Got, Source};
 
 /// The generated stream: the header, then records of one to four writes and one to four reads each.
 ///
-/// It tells the octets that it has left. It takes no memory, and no read fails.
+/// It tells the octets that it gave and has left. It takes no memory, and no read fails.
 #[derive(Drop)]
 pub struct LoadSource {
+    start: u32,
+    total: u32,
+    given: u64,
     draws: Draws,
     records: u32,
     piece: Piece,
     at: usize,
     ghost within: { at ≤ length piece.items },
+    ghost short: { length (load_octets start total) < 2 ^ 64 },
+    ghost few: { given ≤ length (load_octets start total) },
+    ghost parts: { load_octets start total ≡ take given (load_octets start total) ++ (drop at piece.items ++ octets_of_records records draws) },
 }
 
 impl LoadSource {
-    ghost use Rattle.eb_load.specs.LoadSource.{left_of, reading_of};
+    ghost use Rattle.eb_load.specs.LoadSource.{given_of, left_of, reading_of};
 
     /// The stream of so many records, whose draws begin at `start`.
     pub fn new(start: u32, records: u32) -> LoadSource
-        ensures tells { reading_of result ≡ record { given = None; left = Some (load_octets start records); faults = 0 } }
+        ensures tells { reading_of result ≡ record { given = Some []; left = Some (load_octets start records); faults = 0 } }
     {
         let mut piece = Piece::new();
         put(&mut piece, &[0x4e, 0x6f, 0x10, 0x44]);
         LoadSource {
+            start,
+            total: records,
+            given: 0,
             draws: Draws::from(start),
             records,
             piece,
@@ -36,11 +45,19 @@ impl LoadSource {
         }
     }
 
+    /// How many octets it gave.
+    pub fn given(&self) -> u64
+        ensures count { IfSome (reading_of self.now).given (λ octets. result ≡ length octets) }
+    {
+        self.given
+    }
+
     // Makes the next record, where all octets of the piece were given. What is left stays the same.
     fn advance(&mut self)
         requires given { self.old.at ≡ length self.old.piece.items }
         requires more { 0 < self.old.records }
         ensures left { left_of self.new ≡ left_of self.old }
+        ensures given { given_of self.new ≡ given_of self.old }
         ensures some { self.new.at < length self.new.piece.items }
     {
         self.piece = next_record(&mut self.draws);
@@ -55,11 +72,13 @@ impl LoadSource {
         ensures some { 0 < result }
         ensures room { result ≤ length room.new }
         ensures octets { left_of self.old ≡ take result room.new ++ left_of self.new }
+        ensures given { given_of self.new ≡ given_of self.old ++ take result room.new }
     {
         let at = self.at;
         let count = room.len().min(self.piece.len() - at);
         room[..count].copy_from_slice(&self.piece.as_slice()[at..at + count]);
         self.at = at + count;
+        self.given += count as u64;
         count
     }
 }

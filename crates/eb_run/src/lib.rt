@@ -1,14 +1,17 @@
-//! The commands of the program, over a world, a sink for output and one for errors.
+//! The commands of the program `eb`: their top calls, generic over the world outside and the streams that are written.
 #![tactic(auto)]
 
-mod answer;
+mod board;
+mod commands;
+mod files;
+mod load;
 mod plain;
-mod status;
-mod texts;
-mod words;
+mod results;
+mod streams;
 
-pub use plain::{Family, family_of, run_plain, tell};
-pub use status::Status;
+pub use eb_text::{Fault, Status, write_line};
+pub use plain::{Family, family_of, run_plain};
+
 
 #[cfg(test)]
 mod tests;

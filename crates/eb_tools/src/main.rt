@@ -2,20 +2,20 @@
 #![tactic(auto)]
 
 use eb_io::{RealWorld, StdSink};
-use eb_run::{Family, Status, family_of, run_plain, tell};
+use eb_run::{Family, Fault, family_of, run_plain, write_line};
 use std::alloc::Global;
 use std::env;
 use std::io::{self, ErrorKind};
 use std::process::ExitCode;
 
 // The words behind the program's name. One that isn't UTF-8 is none of a command.
-fn words_of(rt: HostRuntime, alloc: Global) -> Result<Vec<String>, Status> {
+fn words_of(rt: HostRuntime, alloc: Global) -> Result<Vec<String>, Fault> {
     match env::args(&rt) {
-        Err(fault) if fault.kind() == ErrorKind::OutOfMemory => Err(Status::NO_MEMORY),
-        Err(_) => Err(Status::USAGE),
+        Err(fault) if fault.kind() == ErrorKind::OutOfMemory => Err(Fault::NoMemory),
+        Err(_) => Err(Fault::Usage),
         Ok(args) => match args.skip(1).collect::<Vec<String>>(alloc) {
             Ok(words) => Ok(words),
-            Err(_) => Err(Status::NO_MEMORY),
+            Err(_) => Err(Fault::NoMemory),
         },
     }
 }
@@ -31,9 +31,9 @@ fn main(rt: HostRuntime) -> ExitCode {
                 run_plain(alloc, &words, &mut world, &mut out, &mut err)
             }
         },
-        Err(status) => {
-            tell(status, &mut err);
-            status
+        Err(fault) => {
+            let _ = write_line(&fault, &mut err);
+            fault.status()
         }
     };
     ExitCode::from(status.0)

@@ -1,0 +1,43 @@
+-- What a board's stream came to, from what its session and its master came to.
+use Rattle.std.proofs.Common.{◌≡◌, ℕ, List, [], ◌++◌, refl, sym, ◌∙◌, ap, subst}
+use Rattle.std.specs.Prelude.{All}
+use Rattle.eb_base.specs.declared.width.Width.TheVariants.{W32}
+use Rattle.eb_io.specs.Reading.{Reading}
+use Rattle.eb_io.specs.Writing.{Writing}
+use Rattle.wb_signals.specs.History.{Entry, IsLegal}
+use Rattle.eb_session.specs.Cycles.{Fit, given}
+use Rattle.eb_session.specs.Keeping.{cycles_of}
+use Rattle.eb_session.specs.Replies.{Slave}
+use Rattle.eb_server.specs.Serving as serving
+use Rattle.eb_server.specs.declared.ending.Ending.{Ending}
+use Rattle.soc_machine.specs.Machine.{MachineState, wiring_of, built_with_ram}
+use Rattle.soc_machine.specs.Plain.{PlainState, new_plain}
+use Rattle.eb_run.specs.Board.{IsMade, system_of}
+use Rattle.eb_run.specs.Streams.{ServedOn, ram_system}
+use Rattle.eb_run.specs.declared.board.Board.{Board}
+
+-- The master was new, and its entries are a legal history.
+pub served_on : (s : Slave) (old new : PlainState) (source source' : Reading) (out out' : Writing) (e : Ending) → old ≡ new_plain old.began 0 → new.began ≡ old.began
+    → IsLegal (wiring_of new.began) new.began.contents new.made
+    → serving.Served old.number s (cycles_of old.made old.opened) (cycles_of new.made new.opened) source source' out out' e
+    → ServedOn (record { slave = s; wiring = wiring_of old.began; contents = old.began.contents }) source source' out out' new.made e
+served_on s old new source source' out out' e is_new began legal served =
+    let none : old.made ≡ [] = ap (λ (p : PlainState). p.made) is_new in
+    let number : old.number ≡ 0 = ap (λ (p : PlainState). p.number) is_new in
+    let made : served.entries ≡ new.made = sym (served.made ∙ ap (λ (l : List Entry). l ++ served.entries) none) in
+    let P : ℕ → Type 0 = λ n. All (λ (entry : Entry). entry.master ≡ n) served.entries in
+    let mine : All (λ (entry : Entry). entry.master ≡ 0) served.entries = subst P number served.mine in
+    record {
+      octets = served.octets;
+      items = served.items;
+      read = served.read;
+      ran = served.ran;
+      fit = subst (λ (l : List Entry). Fit s.bus served.items l) made served.fit;
+      mine = subst (λ (l : List Entry). All (λ entry. entry.master ≡ 0) l) made mine;
+      legal = subst (λ (m : MachineState). IsLegal (wiring_of m) m.contents new.made) began legal;
+      answered = subst (λ (l : List Entry). serving.WereAnswered s out out' served.items (given l) e) made served.answered;
+    }
+
+-- a board of a machine of one RAM, without a table
+pub ram_is : (octets : ℕ) (b : Board) → IsMade (built_with_ram octets) 0 b → system_of b ≡ ram_system octets
+ram_is octets b made = λ i. record { slave = made.slave_is i; wiring = wiring_of (made.machine_is i); contents = (made.machine_is i).contents }

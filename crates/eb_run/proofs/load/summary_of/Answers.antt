@@ -1,0 +1,62 @@
+use Rattle.std.proofs.Common.{◌≡◌, ◌^◌, ◌<◌, List, length, refl, sym, ◌∙◌, ap, subst, arith}
+use Rattle.wb_signals.specs.History.{Entry}
+use Rattle.eb_io.specs.MemSink.{writing_of}
+use Rattle.eb_server.specs.declared.ending.Ending.{Ending}
+use Rattle.eb_server.specs.declared.ending.Ending.TheVariants as ending
+use Rattle.eb_load.specs.LoadSource.{reading_of}
+use Rattle.eb_load.specs.Summary.{summary, summary_text}
+use Rattle.eb_load.specs.declared.summary.Summary.{Summary}
+use Rattle.eb_run.specs.Board.{entries_of}
+use Rattle.eb_run.specs.Commands.{Summed}
+use Rattle.eb_run.specs.Streams.{System, ServedOn, ram_system}
+use Rattle.eb_run.proofs.Boards.{ram_is}
+use Rattle.eb_run.proofs.Loads.{MayEnd, may_end, summed}
+use Rattle.eb_run.proofs.load.summary_of.Goals as goal
+
+pub returns-in-Clean : goal.returns-in-Clean
+returns-in-Clean c =
+    let source = reading_of c.new-source.result in
+    let source' = reading_of c.serve.new.source in
+    let out = writing_of c.in_ok-replies.replies in
+    let out' = writing_of c.serve.new.sink in
+    let entries = entries_of c.serve.new.self in
+    let served = subst (λ (s : System). ServedOn s source source' out out' entries c.serve.result) (ram_is 65536 c.args.board.now c.requires.made) c.serve.ensures.served in
+    let small : c.args.cycles < 2 ^ 32 = omega arith in
+    let clean = subst (λ (e : Ending). ServedOn (ram_system 65536) source source' out out' entries e) c.in-Clean.is served in
+    let sum = summed c.args.start c.args.cycles source source' out out' entries small (c.new-source.ensures.tells, c.in_ok-replies.ensures.tells) refl c.given.result c.octets.result.now clean c.given.ensures.count c.octets.ensures.written in
+    let journal : summary entries c.given.result (length c.octets.result.now) ≡ c.of.result =
+      ap (λ (l : List Entry). summary l c.given.result (length c.octets.result.now)) (sym c.journal.ensures.entries) ∙ sym c.of.ensures.value in
+    record { summed = subst (λ (s : Summary). Summed c.args.start c.args.cycles (summary_text s)) journal sum }
+
+pub unreachable-requires : goal.unreachable-requires
+unreachable-requires c =
+    let source = reading_of c.new-source.result in
+    let source' = reading_of c.serve.new.source in
+    let out = writing_of c.in_ok-replies.replies in
+    let out' = writing_of c.serve.new.sink in
+    let entries = entries_of c.serve.new.self in
+    let served = subst (λ (s : System). ServedOn s source source' out out' entries c.serve.result) (ram_is 65536 c.args.board.now c.requires.made) c.serve.ensures.served in
+    let small : c.args.cycles < 2 ^ 32 = omega arith in
+    subst (λ (e : Ending). MayEnd e) c.in-Truncated.is (may_end c.args.start c.args.cycles source source' out out' entries small (c.new-source.ensures.tells, c.in_ok-replies.ensures.tells) refl c.serve.result served)
+
+pub unreachable-requires-in-Malformed : goal.unreachable-requires-in-Malformed
+unreachable-requires-in-Malformed c =
+    let source = reading_of c.new-source.result in
+    let source' = reading_of c.serve.new.source in
+    let out = writing_of c.in_ok-replies.replies in
+    let out' = writing_of c.serve.new.sink in
+    let entries = entries_of c.serve.new.self in
+    let served = subst (λ (s : System). ServedOn s source source' out out' entries c.serve.result) (ram_is 65536 c.args.board.now c.requires.made) c.serve.ensures.served in
+    let small : c.args.cycles < 2 ^ 32 = omega arith in
+    subst (λ (e : Ending). MayEnd e) c.in-Malformed.is (may_end c.args.start c.args.cycles source source' out out' entries small (c.new-source.ensures.tells, c.in_ok-replies.ensures.tells) refl c.serve.result served)
+
+pub unreachable-requires-in-TooLong : goal.unreachable-requires-in-TooLong
+unreachable-requires-in-TooLong c =
+    let source = reading_of c.new-source.result in
+    let source' = reading_of c.serve.new.source in
+    let out = writing_of c.in_ok-replies.replies in
+    let out' = writing_of c.serve.new.sink in
+    let entries = entries_of c.serve.new.self in
+    let served = subst (λ (s : System). ServedOn s source source' out out' entries c.serve.result) (ram_is 65536 c.args.board.now c.requires.made) c.serve.ensures.served in
+    let small : c.args.cycles < 2 ^ 32 = omega arith in
+    subst (λ (e : Ending). MayEnd e) c.in-TooLong.is (may_end c.args.start c.args.cycles source source' out out' entries small (c.new-source.ensures.tells, c.in_ok-replies.ensures.tells) refl c.serve.result served)

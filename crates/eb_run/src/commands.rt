@@ -1,0 +1,96 @@
+// The commands, behind their words.
+ghost use Rattle.std.specs.Prelude.{◌≡◌, ◌<◌, ◌≤◌, ◌^◌, ◌%◌, map, string_bytes};
+ghost use Rattle.eb_text.specs.Words.{AnswerRam, Answer, Build, Load, Show, IsRamSize};
+ghost use Rattle.eb_run.specs.Commands.{Runs};
+ghost use Rattle.eb_run.specs.Top.{RunsWords};
+
+use crate::board::Board;
+use crate::files::read_description;
+use crate::load::load;
+use crate::results::written;
+use crate::streams::answer_file;
+use eb_io::{Sink, World, put_all};
+use eb_text::{Fault, Words, command_of, write_build};
+use sdb_build::images;
+use soc_machine::Machine;
+use std::alloc::Global;
+
+// `answer --ram N CAPTURE`
+fn answer_ram<W: World, O: Sink>(
+    alloc: Global,
+    octets: u32,
+    capture: &str,
+    world: &mut W,
+    out: &mut O,
+) -> Result<(), Fault>
+    requires size { IsRamSize octets }
+    ensures runs { Runs W.File.reading (W.outside world.old) (W.outside world.new) (O.writing out.old) (O.writing out.new) (AnswerRam octets capture.now) result }
+{
+    let Ok(machine) = Machine::ram(alloc, octets) else {
+        return Err(Fault::NoMemory);
+    };
+    let Ok(mut board) = Board::new(alloc, machine, 0) else {
+        return Err(Fault::NoMemory);
+    };
+    answer_file(alloc, capture, world, &mut board, out)
+}
+
+// `answer DESC CAPTURE`
+fn answer<W: World, O: Sink>(
+    alloc: Global,
+    description: &str,
+    capture: &str,
+    world: &mut W,
+    out: &mut O,
+) -> Result<(), Fault>
+    ensures runs { Runs W.File.reading (W.outside world.old) (W.outside world.new) (O.writing out.old) (O.writing out.new) (Answer description.now capture.now) result }
+{
+    let described = read_description(alloc, description, world)?;
+    let Ok(machine) = Machine::build(alloc, &described) else {
+        return Err(Fault::NoMemory);
+    };
+    let Ok(mut slave) = Board::new(alloc, machine, described.bus.sdb) else {
+        return Err(Fault::NoMemory);
+    };
+    answer_file(alloc, capture, world, &mut slave, out)
+}
+
+// `build DESC`
+fn build<W: World, O: Sink>(
+    alloc: Global,
+    description: &str,
+    world: &mut W,
+    out: &mut O,
+) -> Result<(), Fault>
+    ensures runs { Runs W.File.reading (W.outside world.old) (W.outside world.new) (O.writing out.old) (O.writing out.new) (Build description.now) result }
+{
+    let found = read_description(alloc, description, world)?;
+    let Ok(images) = images(alloc, &found) else {
+        return Err(Fault::NoMemory);
+    };
+    written(write_build(&images, out))
+}
+
+/// Runs the command that the words are.
+pub fn run_words<W: World, O: Sink>(
+    alloc: Global,
+    words: &[String],
+    world: &mut W,
+    out: &mut O,
+) -> Result<(), Fault>
+    ensures runs { RunsWords W.File.reading (W.outside world.old) (W.outside world.new) (O.writing out.old) (O.writing out.new) (map string_bytes words.now) result }
+{
+    let Some(command) = command_of(words) else {
+        return Err(Fault::Usage);
+    };
+    match command {
+        Words::AnswerRam { octets, capture } => answer_ram(alloc, octets, capture, world, out),
+        Words::Answer {
+            description,
+            capture,
+        } => answer(alloc, description, capture, world, out),
+        Words::Build { description } => build(alloc, description, world, out),
+        Words::Load { start, cycles } => load(alloc, start, cycles, out),
+        Words::Show(text) => written(put_all(out, text)),
+    }
+}

@@ -1,0 +1,71 @@
+// Answers a generated stream.
+ghost use Rattle.std.specs.Prelude.{◌≡◌, IfOk};
+ghost use Rattle.eb_load.specs.Summary.{summary_text};
+ghost use Rattle.soc_machine.specs.Machine.{built_with_ram};
+ghost use Rattle.eb_run.specs.Board.{IsMade};
+ghost use Rattle.eb_run.specs.Commands.{LoadRuns, Summed};
+
+use crate::board::Board;
+use crate::results::written;
+use eb_base::NoMemory;
+use eb_io::{MemSink, Sink};
+use eb_load::{LoadSource, Summary};
+use eb_server::Ending;
+use eb_text::Fault;
+use soc_machine::Machine;
+use std::alloc::Global;
+
+// How many octets the RAM has.
+const RAM: u32 = 65_536;
+
+// The octets of the reply to the header, and the most of one to a record, which reads four words.
+const HEADER_REPLY: usize = 4;
+const RECORD_REPLY: usize = 24;
+
+// Serves a generated stream, keeps the replies in memory, and counts.
+fn summary_of(
+    alloc: Global,
+    start: u32,
+    cycles: u32,
+    board: &mut Board,
+) -> Result<Summary, NoMemory>
+    requires made { IsMade (built_with_ram 65536) 0 board.old }
+    ensures summed { IfOk result (λ s. Summed start cycles (summary_text s)) }
+{
+    let room = HEADER_REPLY + RECORD_REPLY * cycles as usize;
+    let mut replies = MemSink::new(alloc, room, usize::MAX, Vec::new(alloc))?;
+    let mut source = LoadSource::new(start, cycles);
+    match board.serve(alloc, &mut source, &mut replies) {
+        Ending::Clean => Ok(Summary::of(
+            board.journal(),
+            source.given(),
+            replies.octets().len() as u64,
+        )),
+        Ending::WriteFault | Ending::NoMemory => Err(NoMemory),
+        Ending::Truncated(_) => unreachable!(),
+        Ending::Malformed(..) => unreachable!(),
+        Ending::ReadFault => unreachable!(),
+        Ending::TooLong => unreachable!(),
+    }
+}
+
+/// Answers a generated stream on a RAM, and writes the summary of that.
+pub fn load<O: Sink>(
+    alloc: Global,
+    start: u32,
+    cycles: u32,
+    out: &mut O,
+) -> Result<(), Fault>
+    ensures runs { LoadRuns (O.writing out.old) (O.writing out.new) start cycles result }
+{
+    let Ok(machine) = Machine::ram(alloc, RAM) else {
+        return Err(Fault::NoMemory);
+    };
+    let Ok(mut board) = Board::new(alloc, machine, 0) else {
+        return Err(Fault::NoMemory);
+    };
+    match summary_of(alloc, start, cycles, &mut board) {
+        Err(_) => Err(Fault::NoMemory),
+        Ok(summary) => written(summary.write(out)),
+    }
+}
