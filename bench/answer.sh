@@ -1,5 +1,6 @@
 #!/usr/bin/env bash
-# Times the built program on large captures, a generated load and a large description, and plain.rs on the same, in one run.
+# Times the built program on large captures, a generated load and a large description, and plain.rs on the same, in one run:
+# with the journal of the cycles that `eb` keeps, and without one.
 # Prints for each the best of three runs: seconds, octets of the capture a second, and the greatest memory held.
 # Wants python3, and rustc for plain.rs, which is passed over where there is none.
 set -u
@@ -86,10 +87,13 @@ runs = [
 for title, command, octets in runs:
     print(title)
     seen = set()
-    for program, name in zip(programs, ["eb", "plain"]):
-        line, output = measured([program, *command], octets)
+    runs_of = [("eb", programs[:1])]
+    if len(programs) > 1:
+        runs_of += [("plain", programs[1:]), ("no journal", [*programs[1:], "--no-journal"])]
+    for name, program in runs_of:
+        line, output = measured([*program, *command], octets)
         seen.add(output)
-        print(f"  {name:6} {line}")
+        print(f"  {name:10} {line}")
     if len(seen) > 1:
         print("  the outputs differ")
 MEASURE

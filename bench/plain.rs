@@ -1,5 +1,6 @@
-//! The measure of `answer.sh`: what `eb` does in the same commands, written as one plain Rust program without proofs. It keeps
-//! no journal and checks only what it needs; each reply is written by itself, before the next record runs.
+//! The measure of `answer.sh`: what `eb` does in the same commands, written as one plain Rust program without proofs. It checks
+//! only what it needs; each reply is written by itself, before the next record runs. Like `eb` it keeps a journal of the cycles;
+//! with `--no-journal` as the first word it keeps none.
 use std::fs::File;
 use std::io::{Read, Write};
 
@@ -87,9 +88,22 @@ impl Bus {
     }
 }
 
+/// An operation with its answer.
+#[allow(dead_code)]
+struct Pair {
+    write: bool,
+    adr: u64,
+    dat: u64,
+    sel: u8,
+    answer: Option<u64>,
+}
+
 /// What one stream needs: records of 32-bit addresses and a 32-bit port.
 struct Session {
     bus: Bus,
+    keeps: bool,
+    journal: Vec<Vec<Pair>>,
+    open: Vec<Pair>,
     reply: Vec<u8>,
     cycles: u64,
     writes: u64,
@@ -103,8 +117,8 @@ fn word_at(octets: &[u8], at: usize) -> u32 {
 }
 
 impl Session {
-    fn new(bus: Bus) -> Session {
-        Session { bus, reply: Vec::with_capacity(2056), cycles: 0, writes: 0, reads: 0, errors: 0, sum: 0 }
+    fn new(bus: Bus, keeps: bool) -> Session {
+        Session { bus, keeps, journal: Vec::new(), open: Vec::new(), reply: Vec::with_capacity(2056), cycles: 0, writes: 0, reads: 0, errors: 0, sum: 0 }
     }
 
     /// How many octets the record at the front has, if it is whole.
@@ -115,18 +129,29 @@ impl Session {
         (octets.len() >= size).then_some(size)
     }
 
+    fn op(&mut self, write: bool, adr: u64, dat: u32, sel: u8) -> Option<u32> {
+        let answer = self.bus.op(write, adr, dat, sel);
+        if self.keeps {
+            self.open.push(Pair { write, adr, dat: dat.into(), sel, answer: answer.map(u64::from) });
+        }
+        self.errors += u64::from(answer.is_none());
+        answer
+    }
+
     fn run(&mut self, record: &[u8]) {
         let (flags, enable, writes, reads) = (record[0], record[1], record[2] as usize, record[3] as usize);
         if flags & 0x11 != 0 || enable > 15 || (enable == 0 && writes + reads != 0) {
             std::process::exit(6);
         }
         let mut at = 4;
+        if self.keeps {
+            self.open.reserve(writes + reads);
+        }
         if writes != 0 {
             let base = word_at(record, at);
             for i in 0..writes {
                 let adr = if flags & 2 == 0 { base.wrapping_add(4 * i as u32) } else { base };
-                let answer = self.bus.op(true, u64::from(adr & !3), word_at(record, at + 4 + 4 * i) & mask(enable), enable);
-                self.errors += u64::from(answer.is_none());
+                self.op(true, u64::from(adr & !3), word_at(record, at + 4 + 4 * i) & mask(enable), enable);
             }
             at += 4 + 4 * writes;
         }
@@ -136,14 +161,18 @@ impl Session {
             self.reply.extend_from_slice(&[back, enable, reads as u8, 0]);
             self.reply.extend_from_slice(&record[at..at + 4]);
             for i in 0..reads {
-                let answer = self.bus.op(false, u64::from(word_at(record, at + 4 + 4 * i) & !3), 0, enable);
-                self.errors += u64::from(answer.is_none());
+                let answer = self.op(false, u64::from(word_at(record, at + 4 + 4 * i) & !3), 0, enable);
                 let word = answer.unwrap_or(0);
                 self.sum = self.sum.wrapping_add(u64::from(word));
                 self.reply.extend_from_slice(&word.to_be_bytes());
             }
         }
-        self.cycles += u64::from(flags & 8 != 0);
+        if flags & 8 != 0 {
+            self.cycles += 1;
+            if self.keeps {
+                self.journal.push(std::mem::take(&mut self.open));
+            }
+        }
         self.writes += writes as u64;
         self.reads += reads as u64;
     }
@@ -162,7 +191,7 @@ impl Session {
     }
 }
 
-fn answer(bus: Bus, capture: &str) {
+fn answer(bus: Bus, keeps: bool, capture: &str) {
     let mut file = File::open(capture).unwrap();
     // The file's own descriptor, without the line buffer of the standard output.
     let mut out = std::mem::ManuallyDrop::new(unsafe { <File as std::os::fd::FromRawFd>::from_raw_fd(1) });
@@ -170,7 +199,7 @@ fn answer(bus: Bus, capture: &str) {
     file.read_exact(&mut header).unwrap();
     assert_eq!(header, [0x4E, 0x6F, 0x10, 0x44]);
     out.write_all(&[0x4E, 0x6F, 0x14, 0x44]).unwrap();
-    let mut session = Session::new(bus);
+    let mut session = Session::new(bus, keeps);
     let (mut room, mut held) = (vec![0; 65536 + 4104], 0);
     loop {
         let count = file.read(&mut room[held..held + 65536]).unwrap();
@@ -194,9 +223,9 @@ impl Draws {
     }
 }
 
-fn load(start: u32, count: u32) {
+fn load(keeps: bool, start: u32, count: u32) {
     let mut draws = Draws(start);
-    let mut session = Session::new(ram(65536));
+    let mut session = Session::new(ram(65536), keeps);
     let (mut octets_in, mut octets_out) = (4, 4);
     let mut record = Vec::with_capacity(44);
     for _ in 0..count {
@@ -430,16 +459,20 @@ fn description(name: &str) -> Json {
 
 fn main() {
     let words: Vec<String> = std::env::args().skip(1).collect();
-    let words: Vec<&str> = words.iter().map(String::as_str).collect();
+    let mut words: Vec<&str> = words.iter().map(String::as_str).collect();
+    let keeps = words.first() != Some(&"--no-journal");
+    if !keeps {
+        words.remove(0);
+    }
     match words[..] {
-        ["answer", "--ram", octets, capture] => answer(ram(octets.parse().unwrap()), capture),
-        ["answer", name, capture] => answer(bus_of(description(name).get("bus").unwrap()), capture),
+        ["answer", "--ram", octets, capture] => answer(ram(octets.parse().unwrap()), keeps, capture),
+        ["answer", name, capture] => answer(bus_of(description(name).get("bus").unwrap()), keeps, capture),
         ["build", name] => {
             let mut text = String::new();
             build(description(name).get("bus").unwrap(), 0, &mut text);
             std::io::stdout().write_all(text.as_bytes()).unwrap();
         }
-        ["load", start, count] => load(start.parse().unwrap(), count.parse().unwrap()),
+        ["load", start, count] => load(keeps, start.parse().unwrap(), count.parse().unwrap()),
         _ => std::process::exit(2),
     }
 }

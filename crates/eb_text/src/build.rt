@@ -1,35 +1,18 @@
 // Writes the SDB tables of a description as text.
-ghost use Rattle.std.specs.Prelude.{◌≡◌, ◌*◌, length};
+ghost use Rattle.std.specs.Prelude.{◌≡◌, length};
 ghost use Rattle.hex.specs.Hex.{encode_upper};
 ghost use Rattle.eb_io.specs.Writing.{WritesAll};
-ghost use Rattle.soc_journal.specs.Text.{digits_16, line};
+ghost use Rattle.soc_journal.specs.Text.{line};
 ghost use Rattle.eb_text.specs.Build.{build_text, record_count, record_lines, table_line, table_text};
 
 use crate::lines::{put_line, put_line_of};
 use eb_io::Sink;
 use itoa::Buffer;
 use sdb_build::Image;
+use soc_journal::{digits_16, put_digits};
 
 // The octets of an SDB record.
 const RECORD_LEN: usize = 64;
-
-// Writes octets as hexadecimal digits, in upper case.
-fn put_digits(octets: &[u8], digits: &mut [u8])
-    requires room { length digits.old ≡ 2 * length octets.now }
-    ensures value { digits.new ≡ encode_upper octets.now }
-{
-    hex::encode_to_slice(octets, digits).unwrap();
-    digits.make_ascii_uppercase();
-}
-
-// A number in 16 hexadecimal digits.
-fn digits_16(n: u64) -> [u8; 16]
-    ensures value { result ≡ digits_16 n }
-{
-    let mut digits = [0; 16];
-    put_digits(&n.to_be_bytes(), &mut digits);
-    digits
-}
 
 // Writes a record as 128 hexadecimal digits on a line.
 fn write_record<K: Sink>(octets: &[u8], sink: &mut K) -> bool

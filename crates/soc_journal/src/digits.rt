@@ -20,8 +20,8 @@ pub fn digits_2(octet: u8) -> [u8; 2]
     digits
 }
 
-// Writes octets as hexadecimal digits, in upper case.
-fn put_digits(octets: &[u8], digits: &mut [u8])
+/// Writes octets as hexadecimal digits, in upper case: two an octet.
+pub fn put_digits(octets: &[u8], digits: &mut [u8])
     requires room { length digits.old ≡ 2 * length octets.now }
     ensures value { digits.new ≡ encode_upper octets.now }
 {

@@ -10,7 +10,7 @@ mod line;
 mod pair;
 mod text;
 
-pub use digits::digits_16;
+pub use digits::{digits_16, put_digits};
 pub use entry::Entry;
 pub use journal::Journal;
 pub use pair::{Pair, Pairs};
