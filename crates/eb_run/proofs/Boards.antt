@@ -1,7 +1,6 @@
 -- What a board's stream came to, from what its session and its master came to.
-use Rattle.std.proofs.Common.{◌≡◌, ℕ, List, [], ◌++◌, refl, sym, ◌∙◌, ap, subst}
+use Rattle.std.proofs.Common.{◌≡◌, ℕ, List, [], ◌++◌, sym, ◌∙◌, ap, subst}
 use Rattle.std.specs.Prelude.{All}
-use Rattle.eb_base.specs.declared.width.Width.TheVariants.{W32}
 use Rattle.eb_io.specs.Reading.{Reading}
 use Rattle.eb_io.specs.Writing.{Writing}
 use Rattle.wb_signals.specs.History.{Entry, IsLegal}

@@ -1,5 +1,5 @@
 -- The commands that read a description.
-use Rattle.std.proofs.Common.{◌≡◌, inl, inr, ℕ, ◌==◌, ◌&&◌, Bool, true, false, List, [], ◌∷◌, length, map, Result, Ok, Err, refl, sym, ◌∙◌, ap, subst, arith, rules, nat_le}
+use Rattle.std.proofs.Common.{◌≡◌, inr, ℕ, ◌&&◌, Bool, true, false, List, length, map, Result, Ok, refl, sym, ◌∙◌, ap, subst, arith, rules, nat_le}
 use Rattle.std.specs.Prelude.{⊤}
 use Rattle.std.proofs.lemmas.Bool.{and_parts}
 use Rattle.eb_base.specs.declared.width.Width.{Width}
@@ -21,7 +21,6 @@ use Rattle.sdb_build.specs.Tables.{images_of}
 use Rattle.eb_text.specs.Words.{Answer, Build}
 use Rattle.eb_text.specs.Build.{build_text}
 use Rattle.eb_text.specs.declared.fault.Fault.{Fault}
-use Rattle.eb_text.specs.declared.fault.Fault.TheVariants as fault
 use Rattle.eb_run.specs.Files.{ReadsDescription}
 use Rattle.eb_run.specs.Streams.{System, described_system, AnswersFile}
 use Rattle.eb_run.specs.Board.{IsMade, system_of}

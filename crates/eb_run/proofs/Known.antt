@@ -1,5 +1,5 @@
 -- What files and streams tell, where nothing fails.
-use Rattle.std.proofs.Common.{◌≡◌, ◌≢◌, ◌⊎◌, inl, inr, ℕ, ◌+◌, ◌<◌, ◌≤◌, Bool, true, false, List, [], ◌∷◌, ◌++◌, length, Option, Some, None, Result, Ok, Err, refl, sym, ◌∙◌, ap, subst, arith, rules, length-append, if◌then◌else◌}
+use Rattle.std.proofs.Common.{◌≡◌, ◌⊎◌, inl, inr, ℕ, ◌≤◌, Bool, true, false, List, [], ◌∷◌, ◌++◌, length, Option, Some, None, Result, Ok, Err, refl, sym, ◌∙◌, ap, subst, arith, rules, length-append, if◌then◌else◌}
 use Rattle.std.specs.Prelude.{⊤, nat_lt}
 use Rattle.std.specs.Option.{IfSome}
 use Rattle.std.specs.Str.{is_utf8}
@@ -151,8 +151,8 @@ read_all reading old new name octets d read holds =
     let all : holds.octets ≡ octets ++ held.left = held.all ∙ ap (λ (l : List ℕ). l ++ held.left) given in
     let few = within holds.octets d holds.accepted in
     let rest : held.left ≡ [] = elim read.to [
-      inl ended ↦ none_left (reading read.file).left held.left held.left_is ended.0
-    | inr past ↦ absurd (omega (arith, few, ap length all, length-append octets held.left, past))
+      | inl ended ↦ none_left (reading read.file).left held.left held.left_is ended.0
+      | inr past ↦ absurd (omega (arith, few, ap length all, length-append octets held.left, past))
     ] in
     let same : holds.octets ≡ octets = all ∙ ap (λ (l : List ℕ). octets ++ l) rest ∙ append-nil octets in
     subst (λ (l : List ℕ). described l ≡ Ok d) same holds.accepted

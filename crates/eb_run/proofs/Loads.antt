@@ -1,12 +1,12 @@
 -- A generated stream that is served.
-use Rattle.std.proofs.Common.{◌≡◌, ◌⊎◌, inl, inr, ℕ, ◌+◌, ◌*◌, ◌^◌, ◌<◌, ◌≤◌, List, [], ◌∷◌, ◌++◌, length, Option, Some, None, refl, sym, ◌∙◌, ap, subst, arith, length-append}
+use Rattle.std.proofs.Common.{◌≡◌, ◌⊎◌, inl, inr, ℕ, ◌^◌, ◌<◌, List, [], ◌∷◌, ◌++◌, length, Option, Some, None, refl, sym, ◌∙◌, ap, subst, arith, length-append}
 use Rattle.std.specs.Option.{IfSome}
 use Rattle.std.specs.Io.KnownBytes.{append_known, prepend_known, IsAtEnd}
 use Rattle.std.proofs.lemmas.List.{append-nil}
 use Rattle.eb_base.specs.declared.width.Width.TheVariants.{W32}
 use Rattle.eb_base.specs.declared.width.Widths.{Widths}
 use Rattle.eb_io.specs.Counts.{Rose}
-use Rattle.eb_io.specs.Reading.{Reading, Gave}
+use Rattle.eb_io.specs.Reading.{Reading}
 use Rattle.eb_io.specs.Writing.{Writing}
 use Rattle.eb_codec.specs.declared.item.Header.{Header}
 use Rattle.eb_codec.specs.Stream.{StreamItem, SpellsAll, AreItems, header_after_all}
@@ -91,7 +91,7 @@ module _ (start n : ℕ) (source source' : Reading) (out out' : Writing) (entrie
       } in
       let few : length (load_octets start n) < serving.most_octets = omega (arith, small, is_short start n) in
       well e (whole_stream 0 (ram_system 65536).slave (record { made = []; opened = [] }) (record { made = entries; opened = [] }) source source' out out' e (load_octets start n) (load_items start n)
-        served (ap (λ (r : Reading). r.left) begins.0) few (spells_load start n) (not_risen source.faults source'.faults faults no_fault) no_write)
+      served (ap (λ (r : Reading). r.left) begins.0) few (spells_load start n) (not_risen source.faults source'.faults faults no_fault) no_write)
 
   unwritten : (out'.faults ≡ out.faults) → Rose out.faults out'.faults → ⊥
   unwritten same = let none : out.faults ≡ 0 = ap (λ (w : Writing). w.faults) begins.1 in not_risen out.faults out'.faults none (same ∙ none)
@@ -120,7 +120,7 @@ module _ (start n : ℕ) (source source' : Reading) (out out' : Writing) (entrie
       let told : Some written ≡ Some reply = sym wrote ∙ stream.answered.written ∙ ap (λ (w : Writing). append_known w.written reply) begins.1 in
       let same : written ≡ reply = cc in
       let octets_out : length written ≡ length (replies (ram_system 65536).slave (load_items start n) (given entries)) =
-        ap (λ (l : List ℕ). length l) same ∙ ap (λ (l : List StreamItem). length (replies (ram_system 65536).slave l (given entries))) items in
+      ap (λ (l : List ℕ). length l) same ∙ ap (λ (l : List StreamItem). length (replies (ram_system 65536).slave l (given entries))) items in
       record {
         entries = entries;
         fit = subst (λ (l : List StreamItem). Fit W32 l entries) items stream.fit;

@@ -1,6 +1,6 @@
 -- What the result of a command says of its status.
-use Rattle.std.proofs.Common.{◌≡◌, ◌≢◌, ◌⊎◌, inl, inr, ℕ, ◌<◌, List, [], ◌∷◌, ◌++◌, Option, Some, None, Result, Ok, Err, refl, sym, ◌∙◌, ap, subst, arith, rules}
-use Rattle.std.specs.Prelude.{◌↔◌, Contains, All, ⊤}
+use Rattle.std.proofs.Common.{◌≡◌, ◌≢◌, ◌⊎◌, inl, inr, ℕ, List, [], ◌∷◌, ◌++◌, Result, Ok, Err, refl, sym, ◌∙◌, ap, subst, arith, rules}
+use Rattle.std.specs.Prelude.{◌↔◌, All, ⊤}
 use Rattle.std.proofs.lemmas.List.{append_assoc}
 use Rattle.eb_io.specs.Counts.{Rose}
 use Rattle.eb_io.specs.Reading.{Reading}
@@ -195,8 +195,8 @@ module _ {F : Type 0} (reading : F → Reading) (world world' : Outside F) (out 
         let both : (file : F) → world'.files ≡ between.files ++ file ∷ [] → world'.files ≡ world.files ++ read.file ∷ file ∷ [] = λ file files. two_files between read.file file read.read.files files in
         answers_fine reading between world' out out' capture (described_system d) law none_open (λ file files. second_read read.file file (both file files)) no_write
         (λ file files.
-            let held = good (read.file ∷ file ∷ []) (both file files) in
-            subst (λ (x : Description). HoldsStream x.bus.width (reading file)) (same_description reading world between file_name octets d held.0 read accepted held.1) held.2)
+        let held = good (read.file ∷ file ∷ []) (both file files) in
+        subst (λ (x : Description). HoldsStream x.bus.width (reading file)) (same_description reading world between file_name octets d held.0 read accepted held.1) held.2)
         r ran
     ends (Build file_name) r (inl (f, is, reads, same)) good = unread file_name r f is reads (λ file files. good (file ∷ []) files)
     ends (Build file_name) r (inr (d, between, reads, (same, inl none))) good = inr none.0

@@ -1,5 +1,5 @@
 -- A slave with its bus, on which a stream is served.
-use Rattle.std.specs.Prelude.{◌≡◌, ℕ, ◌<◌, List, [], length}
+use Rattle.std.specs.Prelude.{◌≡◌, ℕ, ◌<◌, List, length}
 use Rattle.eb_base.specs.declared.width.Width.TheVariants.{W32}
 use Rattle.wb_signals.specs.History.{Entry}
 use Rattle.eb_session.specs.Keeping.{new_session}

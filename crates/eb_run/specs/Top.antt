@@ -1,5 +1,5 @@
 -- What a run of the words of a command line met and did.
-use Rattle.std.specs.Prelude.{◌≡◌, ◌⊎◌, ℕ, ◌<◌, List, [], ◌∷◌, ◌++◌, length, All, Bool, Some, None, Option, Result, Ok, Err, ⊤}
+use Rattle.std.specs.Prelude.{◌≡◌, ℕ, ◌<◌, List, [], ◌∷◌, ◌++◌, length, All, Bool, Some, None, Result, Ok, Err, ⊤}
 use Rattle.eb_base.specs.declared.width.Width.{Width}
 use Rattle.eb_base.specs.declared.width.Width.TheVariants.{W32}
 use Rattle.eb_io.specs.Counts.{Rose}
@@ -11,7 +11,7 @@ use Rattle.eb_session.specs.Replies.{sets_of}
 use Rattle.eb_server.specs.Serving.{most_octets}
 use Rattle.soc_desc.specs.Described.{described}
 use Rattle.soc_desc.specs.declared.description.Description.{Description}
-use Rattle.eb_text.specs.Words.{Command, AnswerRam, Answer, Build, Load, Show, IsCommand, IsNoCommand}
+use Rattle.eb_text.specs.Words.{Command, AnswerRam, Answer, Build, IsCommand, IsNoCommand}
 use Rattle.eb_text.specs.Lines.{line_of, status_of as status_of_fault}
 use Rattle.eb_text.specs.declared.status.Status.{Status}
 use Rattle.eb_text.specs.declared.fault.Fault.{Fault}

@@ -1,5 +1,5 @@
 // A slave with its bus, on which streams are served.
-ghost use Rattle.std.specs.Prelude.{◌≡◌, ◌<◌, IfOk, length};
+ghost use Rattle.std.specs.Prelude.{◌≡◌, IfOk};
 ghost use Rattle.eb_run.specs.Streams.{ServedOn};
 ghost use Rattle.eb_run.specs.Board.{IsNew, IsMade, system_of, entries_of};
 
@@ -39,7 +39,12 @@ impl Board {
     }
 
     /// Serves the stream of a source, and writes the replies to a sink.
-    pub fn serve<S: Source, K: Sink>(&mut self, alloc: Global, source: &mut S, sink: &mut K) -> Ending
+    pub fn serve<S: Source, K: Sink>(
+        &mut self,
+        alloc: Global,
+        source: &mut S,
+        sink: &mut K,
+    ) -> Ending
         requires new { IsNew self.old }
         ensures served { ServedOn (system_of self.old) (S.reading source.old) (S.reading source.new) (K.writing sink.old) (K.writing sink.new) (entries_of self.new) result }
     {

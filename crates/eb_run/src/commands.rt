@@ -1,6 +1,6 @@
 // The commands, behind their words.
-ghost use Rattle.std.specs.Prelude.{◌≡◌, ◌<◌, ◌≤◌, ◌^◌, ◌%◌, map, string_bytes};
-ghost use Rattle.eb_text.specs.Words.{AnswerRam, Answer, Build, Load, Show, IsRamSize};
+ghost use Rattle.std.specs.Prelude.{map, string_bytes};
+ghost use Rattle.eb_text.specs.Words.{AnswerRam, Answer, Build, IsRamSize};
 ghost use Rattle.eb_run.specs.Commands.{Runs};
 ghost use Rattle.eb_run.specs.Top.{RunsWords};
 

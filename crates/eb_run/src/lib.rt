@@ -12,6 +12,5 @@ mod streams;
 pub use eb_text::{Fault, Status, write_line};
 pub use plain::{Family, family_of, run_plain};
 
-
 #[cfg(test)]
 mod tests;

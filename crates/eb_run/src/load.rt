@@ -1,5 +1,5 @@
 // Answers a generated stream.
-ghost use Rattle.std.specs.Prelude.{◌≡◌, IfOk};
+ghost use Rattle.std.specs.Prelude.{IfOk};
 ghost use Rattle.eb_load.specs.Summary.{summary_text};
 ghost use Rattle.soc_machine.specs.Machine.{built_with_ram};
 ghost use Rattle.eb_run.specs.Board.{IsMade};
@@ -20,6 +20,7 @@ const RAM: u32 = 65_536;
 
 // The octets of the reply to the header, and the most of one to a record, which reads four words.
 const HEADER_REPLY: usize = 4;
+
 const RECORD_REPLY: usize = 24;
 
 // Serves a generated stream, keeps the replies in memory, and counts.
@@ -50,12 +51,7 @@ fn summary_of(
 }
 
 /// Answers a generated stream on a RAM, and writes the summary of that.
-pub fn load<O: Sink>(
-    alloc: Global,
-    start: u32,
-    cycles: u32,
-    out: &mut O,
-) -> Result<(), Fault>
+pub fn load<O: Sink>(alloc: Global, start: u32, cycles: u32, out: &mut O) -> Result<(), Fault>
     ensures runs { LoadRuns (O.writing out.old) (O.writing out.new) start cycles result }
 {
     let Ok(machine) = Machine::ram(alloc, RAM) else {

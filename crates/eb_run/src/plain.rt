@@ -1,4 +1,4 @@
-ghost use Rattle.std.specs.Prelude.{◌≡◌, ◌↔◌, ◌⊎◌, [], ◌∷◌, List, ℕ, Bool, Ok, Err, Result, ⊤, map, string_bytes, Contains};
+ghost use Rattle.std.specs.Prelude.{◌≡◌, ◌↔◌, ◌⊎◌, [], ◌∷◌, List, ℕ, Ok, Err, Result, ⊤, map, string_bytes, Contains};
 ghost use Rattle.eb_io.specs.Counts.{Rose};
 ghost use Rattle.eb_codec.specs.declared.item.Why.{Why};
 ghost use Rattle.soc_desc.specs.declared.fault.DescFault.{DescFault};
@@ -7,7 +7,7 @@ ghost use Rattle.eb_text.specs.declared.fault.Fault.{Fault};
 ghost use Rattle.eb_text.specs.declared.fault.Fault.TheVariants as fault;
 ghost use Rattle.eb_run.specs.Family.{family};
 ghost use Rattle.eb_run.specs.Commands.{Runs};
-ghost use Rattle.eb_run.specs.Top.{ForCommand, RunsWords, Tells, NothingFails, status_of};
+ghost use Rattle.eb_run.specs.Top.{ForCommand, Tells, NothingFails, status_of};
 
 use crate::commands::run_words;
 use eb_io::{Sink, World};

@@ -1,5 +1,5 @@
 // Answers a capture.
-ghost use Rattle.std.specs.Prelude.{◌≡◌, ◌<◌, length};
+ghost use Rattle.std.specs.Prelude.{◌<◌, length};
 ghost use Rattle.eb_run.specs.Board.{IsNew, system_of, entries_of};
 ghost use Rattle.eb_run.specs.Streams.{ServedOn, AnswersFile};
 ghost use Rattle.eb_run.specs.Steps.{ChangesLast, ChangesLastFile};

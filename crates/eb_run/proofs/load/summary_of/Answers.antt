@@ -2,7 +2,6 @@ use Rattle.std.proofs.Common.{◌≡◌, ◌^◌, ◌<◌, List, length, refl, s
 use Rattle.wb_signals.specs.History.{Entry}
 use Rattle.eb_io.specs.MemSink.{writing_of}
 use Rattle.eb_server.specs.declared.ending.Ending.{Ending}
-use Rattle.eb_server.specs.declared.ending.Ending.TheVariants as ending
 use Rattle.eb_load.specs.LoadSource.{reading_of}
 use Rattle.eb_load.specs.Summary.{summary, summary_text}
 use Rattle.eb_load.specs.declared.summary.Summary.{Summary}
@@ -25,7 +24,7 @@ returns-in-Clean c =
     let clean = subst (λ (e : Ending). ServedOn (ram_system 65536) source source' out out' entries e) c.in-Clean.is served in
     let sum = summed c.args.start c.args.cycles source source' out out' entries small (c.new-source.ensures.tells, c.in_ok-replies.ensures.tells) refl c.given.result c.octets.result.now clean c.given.ensures.count c.octets.ensures.written in
     let journal : summary entries c.given.result (length c.octets.result.now) ≡ c.of.result =
-      ap (λ (l : List Entry). summary l c.given.result (length c.octets.result.now)) (sym c.journal.ensures.entries) ∙ sym c.of.ensures.value in
+    ap (λ (l : List Entry). summary l c.given.result (length c.octets.result.now)) (sym c.journal.ensures.entries) ∙ sym c.of.ensures.value in
     record { summed = subst (λ (s : Summary). Summed c.args.start c.args.cycles (summary_text s)) journal sum }
 
 pub unreachable-requires : goal.unreachable-requires
