@@ -109,6 +109,19 @@ impl Master for PlainMaster {
     }
 }
 
+/// Makes room for so many more pairs: just that in a new cycle, since most end with their first record.
+fn make_pair_room(pairs: &mut Vec<Pair>, count: usize) -> Result<(), NoMemory>
+    ensures pairs { pairs.new.items ≡ pairs.old.items }
+    ensures room { OnOk result (vec_len pairs.new + count ≤ vec_capacity pairs.new) }
+{
+    if pairs.is_empty() {
+        pairs.reserve_exact(count)?;
+        return Ok(());
+    }
+    pairs.reserve(count)?;
+    Ok(())
+}
+
 /// Makes room for so many more pairs, and for so many answers in place of those that are there.
 fn make_room(pairs: &mut Vec<Pair>, answers: &mut Vec<Answer>, count: usize) -> Result<(), NoMemory>
     ensures pairs { pairs.new.items ≡ pairs.old.items }
@@ -116,7 +129,7 @@ fn make_room(pairs: &mut Vec<Pair>, answers: &mut Vec<Answer>, count: usize) -> 
     ensures pairs_room { OnOk result (vec_len pairs.new + count ≤ vec_capacity pairs.new) }
     ensures answers_room { OnOk result (count ≤ vec_capacity answers.new) }
 {
-    pairs.reserve(count)?;
+    make_pair_room(pairs, count)?;
     answers.reserve(count.saturating_sub(answers.len()))?;
     Ok(())
 }
