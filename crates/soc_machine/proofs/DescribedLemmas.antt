@@ -1,5 +1,5 @@
 -- The machine of a description that keeps its rules, from the devices up to the whole: windows lead where the wiring does.
-use Rattle.std.proofs.Common.{◌≡◌, ℕ, suc, ◌+◌, ◌-◌, ◌*◌, ◌%◌, ◌<◌, ◌≤◌, List, [], ◌∷◌, ◌++◌, length, map, Bool, true, false, ◌&&◌, ◌==◌, nat_le, nat_lt, Option, Some, None, refl, sym, ap, ◌∙◌, subst, arith, rules, true≢false}
+use Rattle.std.proofs.Common.{◌≡◌, ℕ, suc, ◌+◌, ◌-◌, ◌*◌, ◌%◌, List, [], ◌∷◌, ◌++◌, length, map, Bool, true, false, ◌&&◌, nat_le, refl, sym, ap, ◌∙◌, subst, arith, true≢false}
 use Rattle.std.proofs.lemmas.Bool.Decides.{nat_tests}
 use Rattle.std.proofs.lemmas.List.{length-replicate, map-append}
 use Rattle.std.proofs.lemmas.Bool.{and_parts}
@@ -8,11 +8,11 @@ use Rattle.eb_base.specs.declared.width.Width.{Width}
 use Rattle.eb_base.specs.declared.width.Width.TheVariants.{W8, W16, W32, W64}
 use Rattle.eb_base.specs.declared.name.Product.{Product}
 use Rattle.eb_base.specs.declared.reg.Reg.{Reg}
-use Rattle.soc_desc.specs.declared.description.BusDescription.{BusDescription, map-BusDescription}
+use Rattle.soc_desc.specs.declared.description.BusDescription.{BusDescription}
 use Rattle.soc_desc.specs.declared.description.ItemDescription.{ItemDescription, map-ItemDescription}
 use Rattle.soc_desc.specs.declared.description.PortWord.{PortWord}
 use Rattle.soc_desc.specs.declared.description.ItemDescription.TheOpen.{ItemDescription-F, BusDescription-F, Ram, Regs, Fifo, Bridge, Integration, Empty}
-use Rattle.soc_desc.specs.declared.description.ItemDescription.TheViews.{roll-ItemDescription, roll-BusDescription, out-BusDescription}
+use Rattle.soc_desc.specs.declared.description.ItemDescription.TheViews.{roll-ItemDescription, roll-BusDescription}
 use Rattle.soc_desc.specs.declared.description.ItemDescription.TheFolds.{fold-roll-ItemDescription, fold-roll-BusDescription, ind-ItemDescription, ind-BusDescription}
 use Rattle.soc_desc.specs.declared.geometry.Extent.{Extent}
 use Rattle.soc_desc.specs.Geometry as geo
@@ -23,14 +23,13 @@ use Rattle.soc_desc.specs.Shape.{address, ram_size, fifo_depth, last_address, u6
 use Rattle.sdb_build.specs.Tables as tables
 use Rattle.sdb_record.specs.declared.kinds.Record.{Record}
 use Rattle.sdb_build.specs.Tables.{ItemTables, BusTables, item_tables, bus_tables, entries, records_of, interconnect, image_of}
-use Rattle.wb_signals.specs.Wiring.{Wiring}
 use Rattle.wb_signals.specs.Bus.{bus}
-use Rattle.wb_signals.specs.Content.{Content, Nothing, Rom, size_of, built_ram, built_registers, built_register, built_fifo}
+use Rattle.wb_signals.specs.Content.{Nothing, Rom, built_ram, built_registers, built_register, built_fifo}
 use Rattle.soc_machine.specs.declared.window.Window.{Window}
-use Rattle.soc_machine.specs.Described.{Part, ItemParts, BusParts, item_parts, bus_parts, item_layer, bus_layer, parts_of, parts_in, bus_again, child_of, held_in, windows_in, path_wait, stalls, rom_at}
+use Rattle.soc_machine.specs.Described.{Part, ItemParts, BusParts, item_parts, bus_parts, item_layer, bus_layer, parts_in, bus_again, child_of, held_in, windows_in, path_wait, stalls, rom_at}
 use Rattle.soc_machine.proofs.ItemLemmas.{ram_tests, registers_tests, queue_tests, in_range}
 use Rattle.soc_machine.proofs.ImageLemmas.{IsWhole, AllWhole, whole_device, whole_bridge, whole_interconnect, whole_integration, whole_empty, length-octets_of}
-use Rattle.soc_machine.proofs.PartLemmas.{extents_of, AllRouted, IsRouted, IsRoutedBus, device_routed, bridge_routed, bus_routed}
+use Rattle.soc_machine.proofs.PartLemmas.{extents_of, AllRouted, IsRoutedBus, device_routed, bridge_routed, bus_routed}
 
 -- ---- what is shown of an item and of a bus
 
@@ -94,76 +93,76 @@ module _ (p : Product) (at : ℕ) (port : PortWord) (wait class major minor : �
   good_ram size =
       let x : ItemDescription-F ItemDescription BusDescription = Ram p at size port wait class major minor in
       good (roll-ItemDescription x) _ _ _ _
-        (fold-roll-ItemDescription ItemParts BusParts item_layer bus_layer x)
-        (fold-roll-ItemDescription ItemPlace BusPlace geo.item_layer geo.bus_layer x)
-        (fold-roll-ItemDescription Bool Bool item_fields_layer bus_fields_layer x)
-        (fold-roll-ItemDescription ItemTables BusTables tables.item_layer tables.bus_layer x)
-        refl (λ width. refl)
-        (λ width h. whole_device p (ram_named p at size wait class major minor h) class major minor (tables.access_widths width) at (at + size - 1))
-        (λ h k. let facts = ram_tests p at size wait class major minor h in
-          (device_routed at size (built_ram size) (path_wait port wait) (stalls port) facts.aligned (omega (arith, facts.least)) (length-replicate {A = ℕ} size 0), tt))
+      (fold-roll-ItemDescription ItemParts BusParts item_layer bus_layer x)
+      (fold-roll-ItemDescription ItemPlace BusPlace geo.item_layer geo.bus_layer x)
+      (fold-roll-ItemDescription Bool Bool item_fields_layer bus_fields_layer x)
+      (fold-roll-ItemDescription ItemTables BusTables tables.item_layer tables.bus_layer x)
+      refl (λ width. refl)
+      (λ width h. whole_device p (ram_named p at size wait class major minor h) class major minor (tables.access_widths width) at (at + size - 1))
+      (λ h k. let facts = ram_tests p at size wait class major minor h in
+      (device_routed at size (built_ram size) (path_wait port wait) (stalls port) facts.aligned (omega (arith, facts.least)) (length-replicate {A = ℕ} size 0), tt))
 
   good_registers : (words : List Reg) → IsGoodItem (roll-ItemDescription (Regs p at words port wait class major minor))
   good_registers words =
       let x : ItemDescription-F ItemDescription BusDescription = Regs p at words port wait class major minor in
       good (roll-ItemDescription x) _ _ _ _
-        (fold-roll-ItemDescription ItemParts BusParts item_layer bus_layer x)
-        (fold-roll-ItemDescription ItemPlace BusPlace geo.item_layer geo.bus_layer x)
-        (fold-roll-ItemDescription Bool Bool item_fields_layer bus_fields_layer x)
-        (fold-roll-ItemDescription ItemTables BusTables tables.item_layer tables.bus_layer x)
-        refl (λ width. refl)
-        (λ width h. whole_device p (registers_named p at words wait class major minor h) class major minor (tables.access_widths width) at (at + 4 * length words - 1))
-        (λ h k. let facts = registers_tests p at words wait class major minor h in
-          (device_routed at (4 * length words) (built_registers words) (path_wait port wait) (stalls port) facts.aligned (omega (arith, facts.least)) (ap (λ (n : ℕ). 4 * n) (length_map built_register words)), tt))
+      (fold-roll-ItemDescription ItemParts BusParts item_layer bus_layer x)
+      (fold-roll-ItemDescription ItemPlace BusPlace geo.item_layer geo.bus_layer x)
+      (fold-roll-ItemDescription Bool Bool item_fields_layer bus_fields_layer x)
+      (fold-roll-ItemDescription ItemTables BusTables tables.item_layer tables.bus_layer x)
+      refl (λ width. refl)
+      (λ width h. whole_device p (registers_named p at words wait class major minor h) class major minor (tables.access_widths width) at (at + 4 * length words - 1))
+      (λ h k. let facts = registers_tests p at words wait class major minor h in
+      (device_routed at (4 * length words) (built_registers words) (path_wait port wait) (stalls port) facts.aligned (omega (arith, facts.least)) (ap (λ (n : ℕ). 4 * n) (length_map built_register words)), tt))
 
   good_queue : (depth : ℕ) → IsGoodItem (roll-ItemDescription (Fifo p at depth port wait class major minor))
   good_queue depth =
       let x : ItemDescription-F ItemDescription BusDescription = Fifo p at depth port wait class major minor in
       good (roll-ItemDescription x) _ _ _ _
-        (fold-roll-ItemDescription ItemParts BusParts item_layer bus_layer x)
-        (fold-roll-ItemDescription ItemPlace BusPlace geo.item_layer geo.bus_layer x)
-        (fold-roll-ItemDescription Bool Bool item_fields_layer bus_fields_layer x)
-        (fold-roll-ItemDescription ItemTables BusTables tables.item_layer tables.bus_layer x)
-        refl (λ width. refl)
-        (λ width h. whole_device p (queue_named p at depth wait class major minor h) class major minor (tables.access_widths width) at (at + 8 - 1))
-        (λ h k. let facts = queue_tests p at depth wait class major minor h in
-          (device_routed at 8 (built_fifo depth) (path_wait port wait) (stalls port) facts.aligned (omega arith) refl, tt))
+      (fold-roll-ItemDescription ItemParts BusParts item_layer bus_layer x)
+      (fold-roll-ItemDescription ItemPlace BusPlace geo.item_layer geo.bus_layer x)
+      (fold-roll-ItemDescription Bool Bool item_fields_layer bus_fields_layer x)
+      (fold-roll-ItemDescription ItemTables BusTables tables.item_layer tables.bus_layer x)
+      refl (λ width. refl)
+      (λ width h. whole_device p (queue_named p at depth wait class major minor h) class major minor (tables.access_widths width) at (at + 8 - 1))
+      (λ h k. let facts = queue_tests p at depth wait class major minor h in
+      (device_routed at 8 (built_fifo depth) (path_wait port wait) (stalls port) facts.aligned (omega arith) refl, tt))
 
 good_bridge : (p : Product) (at : ℕ) (b : BusDescription) → IsGoodBus b → IsGoodItem (roll-ItemDescription (Bridge p at b))
 good_bridge p at b g =
     let x : ItemDescription-F ItemDescription BusDescription = Bridge p at b in
     good (roll-ItemDescription x) _ _ _ _
-      (fold-roll-ItemDescription ItemParts BusParts item_layer bus_layer x)
-      (fold-roll-ItemDescription ItemPlace BusPlace geo.item_layer geo.bus_layer x)
-      (fold-roll-ItemDescription Bool Bool item_fields_layer bus_fields_layer x)
-      (fold-roll-ItemDescription ItemTables BusTables tables.item_layer tables.bus_layer x)
-      (ap (λ (c : BusDescription). roll-ItemDescription (Bridge p at c)) g.again)
-      (λ width. ap (λ (last : ℕ). let e : Extent = record { first = at; last = at + last } in e ∷ []) g.last)
-      (λ width h. whole_bridge p (named p (and_parts (is_product p) (is_in (address 4) at) (and_parts (is_product p && is_in (address 4) at) (bus_fields b) h).0).0) _ _ _)
-      (λ h k.
-        let parts = and_parts (is_product p && is_in (address 4) at) (bus_fields b) h in
-        let at_range = in_range (address 4) at (and_parts (is_product p) (is_in (address 4) at) parts.0).1 in
-        (bridge_routed at (bus_parts b) at_range.2 (g.routed parts.1 k), tt))
+    (fold-roll-ItemDescription ItemParts BusParts item_layer bus_layer x)
+    (fold-roll-ItemDescription ItemPlace BusPlace geo.item_layer geo.bus_layer x)
+    (fold-roll-ItemDescription Bool Bool item_fields_layer bus_fields_layer x)
+    (fold-roll-ItemDescription ItemTables BusTables tables.item_layer tables.bus_layer x)
+    (ap (λ (c : BusDescription). roll-ItemDescription (Bridge p at c)) g.again)
+    (λ width. ap (λ (last : ℕ). let e : Extent = record { first = at; last = at + last } in e ∷ []) g.last)
+    (λ width h. whole_bridge p (named p (and_parts (is_product p) (is_in (address 4) at) (and_parts (is_product p && is_in (address 4) at) (bus_fields b) h).0).0) _ _ _)
+    (λ h k.
+    let parts = and_parts (is_product p && is_in (address 4) at) (bus_fields b) h in
+    let at_range = in_range (address 4) at (and_parts (is_product p) (is_in (address 4) at) parts.0).1 in
+    (bridge_routed at (bus_parts b) at_range.2 (g.routed parts.1 k), tt))
 
 good_integration : (p : Product) → IsGoodItem (roll-ItemDescription (Integration p))
 good_integration p =
     let x : ItemDescription-F ItemDescription BusDescription = Integration p in
     good (roll-ItemDescription x) _ _ _ _
-      (fold-roll-ItemDescription ItemParts BusParts item_layer bus_layer x)
-      (fold-roll-ItemDescription ItemPlace BusPlace geo.item_layer geo.bus_layer x)
-      (fold-roll-ItemDescription Bool Bool item_fields_layer bus_fields_layer x)
-      (fold-roll-ItemDescription ItemTables BusTables tables.item_layer tables.bus_layer x)
-      refl (λ width. refl) (λ width h. whole_integration p (named p h)) (λ h k. tt)
+    (fold-roll-ItemDescription ItemParts BusParts item_layer bus_layer x)
+    (fold-roll-ItemDescription ItemPlace BusPlace geo.item_layer geo.bus_layer x)
+    (fold-roll-ItemDescription Bool Bool item_fields_layer bus_fields_layer x)
+    (fold-roll-ItemDescription ItemTables BusTables tables.item_layer tables.bus_layer x)
+    refl (λ width. refl) (λ width h. whole_integration p (named p h)) (λ h k. tt)
 
 good_empty : IsGoodItem (roll-ItemDescription Empty)
 good_empty =
     let x : ItemDescription-F ItemDescription BusDescription = Empty in
     good (roll-ItemDescription x) _ _ _ _
-      (fold-roll-ItemDescription ItemParts BusParts item_layer bus_layer x)
-      (fold-roll-ItemDescription ItemPlace BusPlace geo.item_layer geo.bus_layer x)
-      (fold-roll-ItemDescription Bool Bool item_fields_layer bus_fields_layer x)
-      (fold-roll-ItemDescription ItemTables BusTables tables.item_layer tables.bus_layer x)
-      refl (λ width. refl) (λ width h. whole_empty) (λ h k. tt)
+    (fold-roll-ItemDescription ItemParts BusParts item_layer bus_layer x)
+    (fold-roll-ItemDescription ItemPlace BusPlace geo.item_layer geo.bus_layer x)
+    (fold-roll-ItemDescription Bool Bool item_fields_layer bus_fields_layer x)
+    (fold-roll-ItemDescription ItemTables BusTables tables.item_layer tables.bus_layer x)
+    refl (λ width. refl) (λ width h. whole_empty) (λ h k. tt)
 
 -- ---- a bus, of what is shown of its items
 
@@ -275,11 +274,11 @@ module _ (p : Product) (width : Width) (last sdb : ℕ) (es : List GoodItem) whe
       let routed = routed_both (parts_in W32 (map item_parts (plain es))) (rom_at sdb (length (map item_parts (plain es))) (image_of (bus_again seen)) W32 ∷ []) (routed_items es fields.each whole.1) (rom, tt) in
       let same_last : last ≡ (bus_parts (roll-BusDescription layer)).last = sym (ap (λ (d : BusParts). d.last) parts_seen) in
       bus_routed (bus_parts (roll-BusDescription layer)) (parts_at W32) routed
-        (subst (λ (n : ℕ). are_within n (extents_of (parts_at W32)) ≡ true) same_last (ap (are_within last) extents_at ∙ ends.0))
-        (ap are_apart extents_at ∙ ends.1)
-        (ap (λ (d : BusParts). d.wiring) parts_seen ∙ ap (λ (w : Width). bus w (map child_of (parts_at w))) fields.width_is)
-        (ap (λ (d : BusParts). d.contents) parts_seen ∙ ap (λ (w : Width). held_in (parts_at w) ++ Nothing ∷ []) fields.width_is)
-        (ap (λ (d : BusParts). d.windows) parts_seen ∙ ap windows_at fields.width_is)
+      (subst (λ (n : ℕ). are_within n (extents_of (parts_at W32)) ≡ true) same_last (ap (are_within last) extents_at ∙ ends.0))
+      (ap are_apart extents_at ∙ ends.1)
+      (ap (λ (d : BusParts). d.wiring) parts_seen ∙ ap (λ (w : Width). bus w (map child_of (parts_at w))) fields.width_is)
+      (ap (λ (d : BusParts). d.contents) parts_seen ∙ ap (λ (w : Width). held_in (parts_at w) ++ Nothing ∷ []) fields.width_is)
+      (ap (λ (d : BusParts). d.windows) parts_seen ∙ ap windows_at fields.width_is)
 
   good_bus : IsGoodBus (roll-BusDescription layer)
   good_bus = record {

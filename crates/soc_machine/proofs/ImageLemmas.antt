@@ -1,8 +1,7 @@
 -- How long the image of a table is.
-use Rattle.std.proofs.Common.{◌≡◌, ℕ, ◌+◌, ◌*◌, ◌≤◌, List, [], ◌∷◌, ◌++◌, length, take, drop, replicate, refl, sym, ap, ◌∙◌, subst, arith, lit≤, length-append, length-drop}
+use Rattle.std.proofs.Common.{◌≡◌, ℕ, ◌+◌, ◌*◌, ◌≤◌, List, [], ◌∷◌, ◌++◌, length, take, drop, replicate, refl, sym, ◌∙◌, subst, arith, lit≤, length-append, length-drop}
 use Rattle.std.proofs.lemmas.List.{length-take, length-replicate}
 use Rattle.eb_base.specs.Width.{octets}
-use Rattle.eb_base.specs.declared.width.Width.{Width}
 use Rattle.eb_base.specs.declared.name.Product.{Product}
 use Rattle.eb_base.proofs.FieldLemmas.{length-with_number}
 use Rattle.sdb_record.specs.declared.kinds.Record.{Record}

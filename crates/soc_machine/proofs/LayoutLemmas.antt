@@ -1,5 +1,5 @@
 -- Places and windows that are added item by item, and bus by bus.
-use Rattle.std.proofs.Common.{◌≡◌, ℕ, suc, ◌+◌, ◌-◌, ◌*◌, ◌%◌, ◌^◌, ◌<◌, ◌≤◌, List, [], ◌∷◌, ◌++◌, length, map, Bool, true, ◌&&◌, nat_le, refl, sym, ap, ◌∙◌, subst, arith, append_assoc, length-append, append-nil}
+use Rattle.std.proofs.Common.{◌≡◌, ℕ, ◌+◌, ◌-◌, ◌*◌, ◌≤◌, List, [], ◌∷◌, ◌++◌, length, map, Bool, true, ◌&&◌, nat_le, refl, sym, ap, ◌∙◌, arith, append_assoc, length-append}
 use Rattle.std.proofs.lemmas.Bool.Decides.{nat_tests}
 use Rattle.std.proofs.lemmas.Bool.{and_parts}
 use Rattle.std.specs.List.{list_all}
@@ -95,7 +95,6 @@ module _ (bus : BusDescription) (sound : IsSoundBus bus) where
 
   again : bus_again (opened bus) ≡ bus
   again = sym (ap (λ (d : BusParts). d.bus) (bus_parts-opened bus)) ∙ (bus_good bus).again
-
 
   abbrev own_items : List Part
   own_items = parts_in W32 (map item_parts (out-BusDescription bus).items)

@@ -28,7 +28,6 @@ pub struct PlainMaster {
 impl Model for PlainMaster {
     ghost use Rattle.std.specs.Prelude.{◌≢◌, ◌≤◌, []};
     ghost use Rattle.soc_machine.specs.Plain.{PlainState, IsPlain, plain};
-
     ghost use Rattle.std.specs.Coded.{codes};
     ghost use Rattle.soc_desc.specs.contracts.description.ItemDescription as item;
 

@@ -34,21 +34,21 @@ put_bus-put_rom-requires-clause-fits t c = omega (arith, ap length c.in_ok-table
 pub put_bus-returns-clause-places : goal.put_bus-returns-clause-places
 put_bus-returns-clause-places t c =
     on_ok c.put_rom.result (contents_of c.put_rom.new.places.items)
-      (contents_of c.put_items.new.places.items ++ Rom c.in_ok-table.field-0.items ∷ Nothing ∷ [])
-      (contents_of c.args.places.now.items ++ (bus_parts c.args.bus.now).contents)
-      c.put_rom.ensures.places
-      (bus_places c.args.bus.now c.requires.sound (contents_of c.args.places.now.items) (contents_of c.put_items.new.places.items) c.as_slice.result.now c.in_ok-table.field-0.items c.as_slice.ensures c.in_ok-table.ensures.octets c.in_ok-put_items.ensures.places)
+    (contents_of c.put_items.new.places.items ++ Rom c.in_ok-table.field-0.items ∷ Nothing ∷ [])
+    (contents_of c.args.places.now.items ++ (bus_parts c.args.bus.now).contents)
+    c.put_rom.ensures.places
+    (bus_places c.args.bus.now c.requires.sound (contents_of c.args.places.now.items) (contents_of c.put_items.new.places.items) c.as_slice.result.now c.in_ok-table.field-0.items c.as_slice.ensures c.in_ok-table.ensures.octets c.in_ok-put_items.ensures.places)
 
 pub put_bus-returns-clause-windows : goal.put_bus-returns-clause-windows
 put_bus-returns-clause-windows t c =
     let first : ℕ = c.args.base + (out-BusDescription c.args.bus.now).sdb in
     let place : ℕ = length c.put_items.new.places.items in
     on_ok c.put_rom.result c.put_rom.new.windows.items
-      (c.put_items.new.windows.items ++ record { first = first; last = first + length c.in_ok-table.field-0.items - 1; place = place } ∷ [])
-      (c.args.windows.now.items ++ (bus_parts c.args.bus.now).windows c.args.base (length c.args.places.now.items))
-      c.put_rom.ensures.windows
-      (bus_windows c.args.bus.now c.requires.sound c.args.base first (length c.args.places.now.items) place c.args.windows.now.items c.put_items.new.windows.items c.as_slice.result.now c.in_ok-table.field-0.items c.as_slice.ensures c.in_ok-table.ensures.octets refl
-        (count_added c.args.places.now.items c.put_items.new.places.items (held_in (parts_in W32 (map item_parts c.as_slice.result.now))) c.in_ok-put_items.ensures.places) c.in_ok-put_items.ensures.windows)
+    (c.put_items.new.windows.items ++ record { first = first; last = first + length c.in_ok-table.field-0.items - 1; place = place } ∷ [])
+    (c.args.windows.now.items ++ (bus_parts c.args.bus.now).windows c.args.base (length c.args.places.now.items))
+    c.put_rom.ensures.windows
+    (bus_windows c.args.bus.now c.requires.sound c.args.base first (length c.args.places.now.items) place c.args.windows.now.items c.put_items.new.windows.items c.as_slice.result.now c.in_ok-table.field-0.items c.as_slice.ensures c.in_ok-table.ensures.octets refl
+    (count_added c.args.places.now.items c.put_items.new.places.items (held_in (parts_in W32 (map item_parts c.as_slice.result.now))) c.in_ok-put_items.ensures.places) c.in_ok-put_items.ensures.windows)
 
 pub put_items-loop-item-preserved : goal.put_items-loop-item-preserved
 put_items-loop-item-preserved t c =
@@ -64,10 +64,10 @@ put_items-loop-item-preserved t c =
     record {
       sound = others_sound c.args.base one rest (subst (λ is. AreSoundItems c.args.base is) here before.sound);
       places = more_places (item_parts one) (map item_parts rest) (contents_of c.loop-item.places.items) (contents_of c.put_item.new.places.items) all_places
-        after.places
-        (ap (λ (is : List ItemDescription). contents_of c.loop-item.places.items ++ held_in (parts_in W32 (map item_parts is))) (sym here) ∙ before.places);
+          after.places
+          (ap (λ (is : List ItemDescription). contents_of c.loop-item.places.items ++ held_in (parts_in W32 (map item_parts is))) (sym here) ∙ before.places);
       windows = more_windows (item_parts one) (map item_parts rest) c.args.base (length c.loop-item.places.items) (length c.put_item.new.places.items) c.loop-item.windows.items c.put_item.new.windows.items all_windows
-        (count_added c.loop-item.places.items c.put_item.new.places.items (held_in ((item_parts one).parts W32)) after.places)
-        after.windows
-        (ap (λ (is : List ItemDescription). c.loop-item.windows.items ++ windows_in c.args.base (length c.loop-item.places.items) (parts_in W32 (map item_parts is))) (sym here) ∙ before.windows);
+          (count_added c.loop-item.places.items c.put_item.new.places.items (held_in ((item_parts one).parts W32)) after.places)
+          after.windows
+          (ap (λ (is : List ItemDescription). c.loop-item.windows.items ++ windows_in c.args.base (length c.loop-item.places.items) (parts_in W32 (map item_parts is))) (sym here) ∙ before.windows);
     }
