@@ -1,6 +1,6 @@
 ghost use Rattle.std.specs.Prelude.{Some, IfSome, [], ◌≡◌, ◌≢◌, ◌<◌, ◌≤◌, ◌^◌, ◌++◌, length, take, drop};
 ghost use Rattle.eb_io.specs.Reading.{Reads};
-ghost use Rattle.eb_load.specs.Stream.{load_octets};
+ghost use Rattle.eb_load.specs.Stream.{load_octets, octets_of_records};
 
 use crate::draws::Draws;
 use crate::octets::put;

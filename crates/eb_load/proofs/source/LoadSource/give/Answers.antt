@@ -1,4 +1,4 @@
-use Rattle.std.proofs.Common.{◌≡◌, ◌+◌, ◌-◌, ◌≤◌, ℕ, List, take, drop, length, ap, ◌∙◌, arith}
+use Rattle.std.proofs.Common.{◌≡◌, ◌+◌, ◌-◌, ℕ, List, take, drop, ap, ◌∙◌, arith}
 use Rattle.eb_load.specs.Stream.{load_octets, octets_of_records}
 use Rattle.eb_load.proofs.Giving.{few_after, given_after, parts_after}
 use Rattle.eb_load.proofs.Piece.{given_front}
