@@ -17,6 +17,3 @@ pub use memory::NoMemory;
 pub use name::{Name, Product};
 pub use reg::{Mode, Reg, RegList};
 pub use width::{Width, Widths};
-
-#[cfg(test)]
-mod tests;

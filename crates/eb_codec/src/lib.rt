@@ -19,6 +19,3 @@ pub use decoder::Decoder;
 pub use event::{Item, Malformed, Step};
 pub use item::{Header, Probe, Record, RecordHead, Why};
 pub use words::Words;
-
-#[cfg(test)]
-mod tests;

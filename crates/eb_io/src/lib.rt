@@ -13,6 +13,3 @@ pub use adapters::{FileSource, RealWorld, StdSink};
 pub use sink::{MemSink, Put, Sink, put_all};
 pub use source::{Gathered, Got, MemSource, Source, gather};
 pub use world::{MemWorld, Opened, World};
-
-#[cfg(test)]
-mod tests;

@@ -13,6 +13,3 @@ mod summary;
 
 pub use source::LoadSource;
 pub use summary::Summary;
-
-#[cfg(test)]
-mod tests;

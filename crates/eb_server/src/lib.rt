@@ -8,6 +8,3 @@ mod serving;
 
 pub use ending::Ending;
 pub use serving::serve;
-
-#[cfg(test)]
-mod tests;

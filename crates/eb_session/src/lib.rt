@@ -10,6 +10,3 @@ pub mod session;
 mod shown;
 
 pub use session::{End, Fed, Session};
-
-#[cfg(test)]
-mod tests;

@@ -15,6 +15,3 @@ pub use fault::Fault;
 pub use lines::write_line;
 pub use status::Status;
 pub use words::{Words, command_of};
-
-#[cfg(test)]
-mod tests;

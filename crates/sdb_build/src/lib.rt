@@ -7,6 +7,3 @@ mod tables;
 
 pub use image::{Image, images};
 pub use tables::table;
-
-#[cfg(test)]
-mod tests;

@@ -13,6 +13,3 @@ pub use decoding::decode;
 pub use encoding::encode;
 pub use faults::{RecordFault, RecordWhy};
 pub use kinds::Record;
-
-#[cfg(test)]
-mod tests;

@@ -15,6 +15,3 @@ pub use description::{BusDescription, Description, ItemDescription, Items, PortW
 pub use fault::DescFault;
 pub use path::Path;
 pub use reading::read;
-
-#[cfg(test)]
-mod tests;

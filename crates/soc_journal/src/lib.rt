@@ -15,6 +15,3 @@ pub use entry::Entry;
 pub use journal::Journal;
 pub use pair::{Pair, Pairs};
 pub use text::Written;
-
-#[cfg(test)]
-mod tests;

@@ -8,6 +8,3 @@ mod memory;
 mod registers;
 
 pub use device::Device;
-
-#[cfg(test)]
-mod tests;

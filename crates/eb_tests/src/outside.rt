@@ -1,0 +1,35 @@
+use eb_io::{Got, MemSink, Opened, RealWorld, Source, StdSink, World, put_all};
+use std::test::Fail;
+
+#[test]
+fn sinks_take_what_they_have_room_for(rt: HostRuntime) -> Result<(), Fail> {
+    let alloc = rt.alloc();
+    let mut sink = MemSink::new(alloc, 5, 2, Vec::from_slice(alloc, &[2])?)?;
+    assert!(rt; put_all(&mut sink, &[1, 2, 3]));
+    assert!(rt; !put_all(&mut sink, &[4]));
+    assert!(rt; !put_all(&mut sink, &[5, 6, 7]));
+    assert_eq!(rt; sink.octets(), [1, 2, 3, 5, 6].as_slice());
+    Ok(())
+}
+
+#[test]
+fn real_files_are_opened(rt: HostRuntime) -> Result<(), Fail> {
+    let alloc = rt.alloc();
+    let mut world = RealWorld::new(rt, alloc);
+    assert_eq!(rt; world.open(alloc, "no/such/file"), Opened::Failed);
+    assert_eq!(rt; world.open(alloc, "."), Opened::Done);
+    assert_eq!(rt; world.open(alloc, "/dev/null"), Opened::Done);
+    let mut room = [0; 4];
+    let mut files = world.files(alloc);
+    assert_eq!(rt; files.len(), 2);
+    for (file, got) in files.iter_mut().zip([Got::Failed, Got::End]) {
+        assert_eq!(rt; file.read(&mut room), got);
+    }
+    Ok(())
+}
+
+#[test]
+fn standard_streams_take_octets(rt: HostRuntime) {
+    let mut sink = StdSink::error(rt);
+    assert!(rt; put_all(&mut sink, b"\n"));
+}
