@@ -7,7 +7,7 @@ ghost use Rattle.eb_text.specs.declared.fault.Fault.{Fault};
 ghost use Rattle.eb_text.specs.declared.fault.Fault.TheVariants as fault;
 ghost use Rattle.eb_run.specs.Family.{family};
 ghost use Rattle.eb_run.specs.Commands.{Runs};
-ghost use Rattle.eb_run.specs.Top.{ForCommand, Tells, NothingFails, status_of};
+ghost use Rattle.eb_run.specs.Top.{ForCommand, Tells, Decides, NothingFails, status_of};
 
 use crate::commands::run_words;
 use eb_io::{Sink, World};
@@ -103,6 +103,11 @@ pub fn run_plain<W: World, O: Sink, E: Sink>(
 
     // There is no other status.
     ensures listed { Contains (0 ∷ 2 ∷ 3 ∷ 4 ∷ 5 ∷ 6 ∷ 7 ∷ 12 ∷ 13 ∷ []) result.0 }
+
+    // Where no count of faults rose, the octets of the files that were opened decide the status, or memory was wanting. So each
+    // status comes exactly where its cause is there.
+    ensures decided { (answer : Result ⊤ Fault) → Decides W.File.reading (W.outside world.old) (W.outside world.new) (O.writing out.old) (O.writing out.new) (map string_bytes words.now) answer →
+        (result ≡ status_of answer) ⊎ (result ≡ Status.NO_MEMORY) }
 
     // Where nothing fails and the files hold what the command wants, only memory can be wanting; a text is shown in any case.
     ensures complete { NothingFails W.File.reading (W.outside world.old) (W.outside world.new) (O.writing out.old) (O.writing out.new) (map string_bytes words.now) →

@@ -43,11 +43,23 @@ pub fn interconnect(bus: &BusDescription) -> Record
 }
 
 /// The class of a device's interface, with the version of that.
-#[derive(Clone, Copy, Debug)]
+#[derive(Clone, Copy)]
 struct Abi {
     class: u16,
     major: u8,
     minor: u8,
+}
+
+impl Abi {
+    fn of(class: u16, major: u8, minor: u8) -> Abi
+        ensures { result ≡ record { class = class; major = major; minor = minor } }
+    {
+        Abi {
+            class,
+            major,
+            minor,
+        }
+    }
 }
 
 /// The record of a device that takes so many octets from an address on, on a bus of this width.
@@ -84,11 +96,7 @@ pub fn entry(width: Width, item: &ItemDescription) -> Record
             minor,
             ..
         } => {
-            let abi = Abi {
-                class: *class,
-                major: *major,
-                minor: *minor,
-            };
+            let abi = Abi::of(*class, *major, *minor);
             device(width, abi, *at, u64::from(*size), product)
         }
         ItemDescription::Regs {
@@ -100,11 +108,7 @@ pub fn entry(width: Width, item: &ItemDescription) -> Record
             minor,
             ..
         } => {
-            let abi = Abi {
-                class: *class,
-                major: *major,
-                minor: *minor,
-            };
+            let abi = Abi::of(*class, *major, *minor);
             device(width, abi, *at, REGISTER_LEN * words.len() as u64, product)
         }
         ItemDescription::Fifo {
@@ -115,11 +119,7 @@ pub fn entry(width: Width, item: &ItemDescription) -> Record
             minor,
             ..
         } => {
-            let abi = Abi {
-                class: *class,
-                major: *major,
-                minor: *minor,
-            };
+            let abi = Abi::of(*class, *major, *minor);
             device(width, abi, *at, QUEUE_LEN, product)
         }
         ItemDescription::Bridge { product, at, bus } => Record::Bridge {

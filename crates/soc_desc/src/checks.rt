@@ -12,7 +12,7 @@ use serde_json::{Map, Value};
 use std::alloc::Global;
 
 /// Numbers from `least` to `most` that are `rest` more than a multiple of `step`.
-#[derive(Clone, Copy, Debug)]
+#[derive(Clone, Copy)]
 pub struct Range {
     pub least: u64,
     pub most: u64,

@@ -11,14 +11,14 @@ use crate::path::Path;
 use std::alloc::{AllocError, Global};
 
 /// The addresses that something takes on a bus; wide enough for a range that would end beyond 64 bits.
-#[derive(Clone, Copy, Debug)]
+#[derive(Clone, Copy)]
 pub struct Extent {
     pub first: u128,
     pub last: u128,
 }
 
 /// An item or a ROM with the addresses that it takes.
-#[derive(Debug, Drop)]
+#[derive(Drop)]
 pub struct Span {
     pub path: Path,
     pub extent: Extent,

@@ -99,7 +99,7 @@ const RAM_SIZE: Range = Range {
 };
 
 /// The kind of an item.
-#[derive(Clone, Copy, Debug, PartialEq, Eq)]
+#[derive(Clone, Copy)]
 pub enum ItemKind {
     Ram,
     Regs,
@@ -110,7 +110,7 @@ pub enum ItemKind {
 }
 
 /// What RAM, registers and FIFOs have in common: how they are joined to their bus, and the ABI that their SDB records name.
-#[derive(Clone, Copy, Debug)]
+#[derive(Clone, Copy)]
 pub struct Interface {
     pub port: PortWord,
     pub wait: u8,

@@ -9,7 +9,7 @@ use crate::path::Path;
 use std::alloc::Global;
 
 /// Devices, records of SDB tables, and octets of RAM.
-#[derive(Clone, Copy, Debug)]
+#[derive(Clone, Copy)]
 pub struct Totals {
     pub devices: u64,
     pub records: u64,
