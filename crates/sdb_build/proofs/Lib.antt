@@ -1,2 +1,5 @@
 pub mod SoundLemmas
 pub mod TableLemmas
+pub mod ImageLemmas
+pub mod RecordLemmas
+pub mod BusLemmas

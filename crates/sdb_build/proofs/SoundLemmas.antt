@@ -38,18 +38,19 @@ placed_parts last items rom h =
     let within = all_append (λ e. nat_le e.last last) (extents items) (rom ∷ []) here.0 in
     (within.0, (and_parts (nat_le rom.last last) true within.1).0, both.1)
 
+pub own_fields : (bus : BusDescription) → bus_fields bus ≡ true
+    → let b = out-BusDescription bus in (is_product b.product && is_width b.width && is_in (last_address 4) b.last && is_in (address 4) b.sdb && nat_le (length (map item_fields b.items)) 64 && all_of (map item_fields b.items)) ≡ true
+own_fields bus fields = search (rules, the_lemmas, fields)
+
 module _ (bus : BusDescription) (sound : IsSoundBus bus) where
   own_places : let b = out-BusDescription bus in (are_placed b.last (extents (map item_place b.items) ++ rom_extent b.sdb (length (map item_place b.items)) ∷ []) && all_behind (map item_place b.items)) ≡ true
   own_places = search (rules, the_lemmas, sound.places)
-
-  own_fields : let b = out-BusDescription bus in (is_product b.product && is_width b.width && is_in (last_address 4) b.last && is_in (address 4) b.sdb && nat_le (length (map item_fields b.items)) 64 && all_of (map item_fields b.items)) ≡ true
-  own_fields = search (rules, the_lemmas, sound.fields)
 
   last_fits : 0 + (out-BusDescription bus).last < 2 ^ 64
   last_fits =
       let b = out-BusDescription bus in
       let counted = is_product b.product && is_width b.width && is_in (last_address 4) b.last && is_in (address 4) b.sdb && nat_le (length (map item_fields b.items)) 64 in
-      let p4 = (and_parts counted (all_of (map item_fields b.items)) own_fields).0 in
+      let p4 = (and_parts counted (all_of (map item_fields b.items)) (own_fields bus sound.fields)).0 in
       let p3 = (and_parts (is_product b.product && is_width b.width && is_in (last_address 4) b.last && is_in (address 4) b.sdb) (nat_le (length (map item_fields b.items)) 64) p4).0 in
       let p2 = (and_parts (is_product b.product && is_width b.width && is_in (last_address 4) b.last) (is_in (address 4) b.sdb) p3).0 in
       let p1 = (and_parts (is_product b.product && is_width b.width) (is_in (last_address 4) b.last) p2).1 in
@@ -66,7 +67,7 @@ module _ (bus : BusDescription) (sound : IsSoundBus bus) where
       let b = out-BusDescription bus in
       let parts = placed_parts b.last (map item_place b.items) (rom_extent b.sdb (length (map item_place b.items))) own_places in
       let others = is_product b.product && is_width b.width && is_in (last_address 4) b.last && is_in (address 4) b.sdb && nat_le (length (map item_fields b.items)) 64 in
-      record { fields = (and_parts others (all_of (map item_fields b.items)) own_fields).1; places = parts.2; ends = raised base b.last (extents (map item_place b.items)) inside parts.0 }
+      record { fields = (and_parts others (all_of (map item_fields b.items)) (own_fields bus sound.fields)).1; places = parts.2; ends = raised base b.last (extents (map item_place b.items)) inside parts.0 }
 
 -- the first of these items, and the others
 pub first_sound : (base : ℕ) (item : ItemDescription) (items : List ItemDescription) → AreSoundItems base (item ∷ items) → IsSoundItem base item

@@ -2,6 +2,7 @@
 #![tactic(auto)]
 
 pub mod image;
+pub mod laws;
 mod records;
 mod tables;
 

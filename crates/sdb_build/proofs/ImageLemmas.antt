@@ -1,6 +1,8 @@
--- How long the image of a table is.
+-- How long the octets of records are.
 use Rattle.std.proofs.Common.{◌≡◌, ℕ, ◌+◌, ◌*◌, ◌≤◌, List, [], ◌∷◌, ◌++◌, length, take, drop, replicate, refl, sym, ◌∙◌, subst, arith, lit≤, length-append, length-drop}
 use Rattle.std.proofs.lemmas.List.{length-take, length-replicate}
+use Rattle.std.proofs.lemmas.List.Elements.{All-head, All-tail}
+use Rattle.std.specs.List.{All}
 use Rattle.eb_base.specs.Width.{octets}
 use Rattle.eb_base.specs.declared.name.Product.{Product}
 use Rattle.eb_base.proofs.FieldLemmas.{length-with_number}
@@ -9,6 +11,7 @@ use Rattle.sdb_record.specs.declared.kinds.Record.TheVariants as sdb
 use Rattle.sdb_record.specs.Layout.{Field, Number, Text, wishbone, product_fields, component_fields, type_field, fields}
 use Rattle.sdb_record.specs.Relation.{with_field, with_fields, encoded}
 use Rattle.sdb_build.specs.Tables.{octets_of}
+use Rattle.sdb_build.specs.Whole.{IsWhole}
 
 -- a field ends within so many octets
 abbrev FitsIn : ℕ → Field → Type 0
@@ -36,10 +39,6 @@ length-encoded r h =
     let e : length (replicate {A = ℕ} 64 0) ≡ 64 = length-replicate {A = ℕ} 64 0 in
     length-with_fields (replicate 64 0) (fields wishbone r) (subst (λ (n : ℕ). AllFitIn n (fields wishbone r)) (sym e) h) ∙ e
 
--- a record of a table
-abbrev pub IsWhole : Record → Type 0
-IsWhole r = length (encoded wishbone r) ≡ 64
-
 module _ (p : Product) (name : length p.name ≡ 19) where
   whole_product : (n : ℕ) → AllFitIn 64 (product_fields p ++ type_field n)
   whole_product n = (lit≤ tt, (lit≤ tt, (lit≤ tt, (lit≤ tt, ((name, lit≤ tt), (lit≤ tt, tt))))))
@@ -64,10 +63,6 @@ module _ (p : Product) (name : length p.name ≡ 19) where
 pub whole_empty : IsWhole sdb.Empty
 whole_empty = length-encoded sdb.Empty (lit≤ tt, tt)
 
-abbrev pub AllWhole : List Record → Type 0
-AllWhole [] = Unit {0}
-AllWhole (r ∷ rs) = IsWhole r × AllWhole rs
-
-pub length-octets_of : (rs : List Record) → AllWhole rs → length (octets_of rs) ≡ 64 * length rs
+pub length-octets_of : (rs : List Record) → All IsWhole rs → length (octets_of rs) ≡ 64 * length rs
 length-octets_of [] h = refl
-length-octets_of (r ∷ rs) h = omega (arith, length-append (encoded wishbone r) (octets_of rs), h.0, length-octets_of rs h.1)
+length-octets_of (r ∷ rs) h = omega (arith, length-append (encoded wishbone r) (octets_of rs), All-head IsWhole r rs h, length-octets_of rs (All-tail IsWhole r rs h))
