@@ -3,3 +3,4 @@ pub mod Digits
 pub mod Items
 pub mod Joined
 pub mod Tables
+pub mod RecordLines

@@ -1,8 +1,18 @@
 -- The build text: the ROM images of a description, as text.
-use Rattle.std.specs.Prelude.{ℕ, zero, suc, ◌/◌, List, [], ◌∷◌, ◌++◌, length, take, drop, codes, decimal}
+use Rattle.std.specs.Prelude.{◌≡◌, ℕ, zero, suc, ◌/◌, List, [], ◌∷◌, ◌++◌, length, take, drop, codes, decimal}
+use Rattle.std.specs.List.{All}
 use Rattle.hex.specs.Hex.{encode_upper}
 use Rattle.soc_journal.specs.Text.{line, digits_16}
+use Rattle.soc_desc.specs.declared.description.Description.{Description}
+use Rattle.soc_desc.specs.Accepted.{IsAccepted}
+use Rattle.sdb_record.specs.declared.kinds.Record.{Record}
+use Rattle.sdb_record.specs.Layout.{wishbone}
+use Rattle.sdb_record.specs.Relation.{encoded}
 use Rattle.sdb_build.specs.declared.image.Image.{Image}
+use Rattle.sdb_build.specs.Tables.{octets_of, table_records, images_of}
+use Rattle.sdb_build.specs.Buses.{PlacedBus, buses_of}
+use Rattle.sdb_build.specs.Whole.{IsWhole}
+use Rattle.sdb_build.specs.Laws.{table_address}
 
 -- how many records of 64 octets there are
 abbrev pub record_count : List ℕ → ℕ
@@ -25,3 +35,30 @@ table_text at octets = table_line at (record_count octets) ++ record_lines (reco
 abbrev pub build_text : List Image → List ℕ
 build_text [] = []
 build_text (image ∷ images) = table_text image.at image.octets ++ build_text images
+
+-- ---- the same by records
+
+-- the octets of a record, in hexadecimal digits on a line
+abbrev pub record_line : Record → List ℕ
+record_line r = line (encode_upper (encoded wishbone r))
+
+abbrev pub lines_of_records : List Record → List ℕ
+lines_of_records [] = []
+lines_of_records (r ∷ rs) = record_line r ++ lines_of_records rs
+
+-- a table: where it stands and how many records it has, and then a line for each record
+abbrev pub text_of_records : ℕ → List Record → List ℕ
+text_of_records at rs = table_line at (length rs) ++ lines_of_records rs
+
+-- the tables of buses
+abbrev pub text_of_buses : List PlacedBus → List ℕ
+text_of_buses [] = []
+text_of_buses (b ∷ bs) = text_of_records (table_address b) (table_records b.bus) ++ text_of_buses bs
+
+-- A table's text has a line for each of its records, where each of them has 64 octets.
+abbrev pub LineForEachRecord : Type 0
+LineForEachRecord = (at : ℕ) (rs : List Record) → All IsWhole rs → table_text at (octets_of rs) ≡ text_of_records at rs
+
+-- The build text of an accepted description is the text of the tables of its buses, with a line for each record.
+abbrev pub BuildByRecords : Type 0
+BuildByRecords = (d : Description) → IsAccepted d → build_text (images_of d) ≡ text_of_buses (buses_of d)
