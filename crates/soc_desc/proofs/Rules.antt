@@ -45,3 +45,7 @@ name_padded t h =
     let whole = IsPadded-padded t h in
     let long : (length (padded t) == 19) ≡ true = grind (arith, nat_tests, whole.0) in
     and_from (length (padded t) == 19) (are_printed (padded t)) long whole.1
+
+-- what is the padded form of a name is a name in its 19 octets
+pub padded_is : (t n : List ℕ) → is_name t ≡ true → n ≡ padded t → is_padded n ≡ true
+padded_is t n h e = subst (λ (octets : List ℕ). is_padded octets ≡ true) (sym e) (name_padded t h)
