@@ -13,8 +13,6 @@ mod descriptions;
 #[cfg(test)]
 mod journal;
 #[cfg(test)]
-mod loads;
-#[cfg(test)]
 mod machine;
 #[cfg(test)]
 mod no_room;
