@@ -11,7 +11,7 @@ use Rattle.eb_codec.specs.declared.event.Malformed.{Malformed}
 use Rattle.eb_codec.specs.declared.event.Item.TheVariants as item
 use Rattle.eb_codec.specs.Rules.{has}
 use Rattle.eb_codec.specs.Stream.{HaveWidths, StreamItem, Probed, Headed, Recorded, BreaksNone, Spells, IsPartial}
-use Rattle.eb_codec.specs.Reading.{size, item_in, record_of, record_head_of, probe_of, header_of}
+use Rattle.eb_codec.specs.Reading.{size, item_in, record_of, probe_of, header_of}
 use Rattle.eb_codec.specs.Decoding.{Progress, told, Gives, TakesAll, Takes, Refuses}
 use Rattle.eb_codec.specs.Filling.{IsFilled, IsBroken}
 use Rattle.eb_codec.specs.Keeping.{tells_record, kept_octets, header_told}
@@ -21,6 +21,7 @@ use Rattle.eb_codec.proofs.ItemLemmas.{size-ge, spells_item_in}
 use Rattle.eb_codec.proofs.Completion.{is_partial, IsBytes-zeros}
 use Rattle.eb_codec.proofs.Bad.{bad_octet}
 use Rattle.eb_codec.proofs.RoomLemmas.{size_take}
+use Rattle.eb_codec.proofs.ViewLemmas.{is_record}
 
 -- the front of the room is what pends
 pub record Pends (sets : Widths) (header : Option Header) (pending room : List ℕ) (len : ℕ) : Type 0 where
@@ -65,10 +66,6 @@ refused sets header held shows start fault piece room room' len at why have byte
     let same : take len room ++ piece ≡ octets = ap (λ (l : List ℕ). l ++ piece) p.is in
     let broke' : IsBroken sets header octets at why = subst (λ (l : List ℕ). IsBroken sets header l at why) same broke in
     record { place = (at, refl, bad_octet sets header octets at why have bytes broke'.inside broke'.none broke'.rule); after = refl }
-
-head_of : (h : Header) (o : List ℕ) → (record_of h o).head ≡ record_head_of o
-unfolding record_of
-head_of h o = refl
 
 same_progress : (sets : Widths) (h : Header) (fault : Option Malformed) (start n m : ℕ) (a b : List ℕ) → n ≡ m → a ≡ b
     → progress_of sets (Some h) a true (start + n) fault ≡ record { sets = sets; header = Some h; start = start + m; pending = []; shown = Some (record_of h b); fault = fault }
@@ -142,15 +139,17 @@ holds_part sets header room n have len bytes most none lt =
     record { widths = have; is_room = len; fits = omega arith; bytes = bytes; item = (none, omega arith, omega arith) }
 
 -- what is kept of a whole item
-pub holds_whole : (sets : Widths) (header : Option Header) (room' : List ℕ) (n : ℕ) → HaveWidths sets → length room' ≡ 4104 → IsBytes room' → n ≤ 4104 → n ≡ size header (take n room')
+pub holds_whole : (sets : Widths) (header : Option Header) (room' : List ℕ) (n : ℕ) → HaveWidths sets → length room' ≡ 4104 → IsBytes room' → BreaksNone sets header (take n room') → n ≤ 4104 → n ≡ size header (take n room')
     → Holds sets (header_told header (told (item_in header (take n room')))) room' (kept_octets (told (item_in header (take n room'))) n) (tells_record (told (item_in header (take n room'))))
 unfolding item_in
-holds_whole sets None room' n have len bytes most size-is =
+holds_whole sets None room' n have len bytes none most size-is =
     elim (cases_Bool (has (get_or (take n room') 2 0) 1)) [
       | inl y ↦ rw y (holds_nothing sets None room' have len bytes)
       | inr z ↦ rw z (holds_nothing sets (Some (header_of (take n room'))) room' have len bytes)
     ]
-holds_whole sets (Some h) room' n have len bytes most size-is = record { widths = have; is_room = len; fits = most; bytes = bytes; item = omega (arith, length-take n room') }
+holds_whole sets (Some h) room' n have len bytes none most size-is =
+    let whole-is : length (take n room') ≡ size (Some h) (take n room') = omega (arith, length-take n room') in
+    record { widths = have; is_room = len; fits = most; bytes = bytes; item = (whole-is, is_record sets h (take n room') none whole-is (IsBytes-take n room' bytes)) }
 
 pub holds_zeros : (sets : Widths) (room : List ℕ) (n : ℕ) → n ≡ 4104 → HaveWidths sets → room ≡ replicate n 0 → Holds sets None room 0 false
 holds_zeros sets room n n-is have e =

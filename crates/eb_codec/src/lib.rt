@@ -13,9 +13,11 @@ mod reading;
 mod room;
 mod rules;
 pub mod sizes;
+pub mod view;
 pub mod words;
 
 pub use decoder::Decoder;
 pub use event::{Item, Malformed, Step};
 pub use item::{Header, Probe, Record, RecordHead, Why};
+pub use view::RecordView;
 pub use words::Words;

@@ -1,0 +1,115 @@
+//! A whole record, read where it lies.
+
+ghost use Rattle.std.specs.Prelude.{◌≡◌, ◌<◌, ◌^◌, slice_index};
+ghost use Rattle.eb_base.specs.Width.{octets as width_octets};
+ghost use Rattle.eb_codec.specs.Form.{FitsRecord, KeepsRules};
+ghost use Rattle.eb_codec.specs.Reading.{record_of};
+ghost use Rattle.eb_codec.specs.View.{IsRecord};
+
+use crate::item::{Header, RecordHead};
+use crate::reading::{base_at, number_at, read_head, second_part};
+use crate::sizes::unit_len;
+use std::marker::Model;
+
+/// A whole record in its octets, with the header that it stands behind. Contracts see the two.
+#[derive(Drop)]
+pub struct RecordView<'a> {
+    header: Header,
+    octets: &'a [u8],
+}
+
+impl<'a> Model for RecordView<'a> {
+    ghost use Rattle.eb_codec.specs.View.{RecordBehind};
+
+    ghost Value = { RecordBehind };
+
+    ghost use Rattle.eb_codec.specs.Viewing.{viewed, SpellsRecord};
+
+    ghost view = { viewed };
+
+    ghost invariant = { SpellsRecord };
+}
+
+impl<'a> RecordView<'a> {
+    /// The record that these octets spell behind the header.
+    pub fn new(header: Header, octets: &'a [u8]) -> RecordView<'a>
+        requires spelled { IsRecord header octets.now }
+        ensures value { result ≡ record { header = header; item = record_of header octets.now } }
+    {
+        RecordView { header, octets }
+    }
+
+    /// The header that the record stands behind.
+    pub fn header(&self) -> Header
+        ensures value { result ≡ self.now.header }
+    {
+        self.header
+    }
+
+    /// The record's first four octets. The record has as many numbers as they say, and breaks no rule.
+    pub fn head(&self) -> RecordHead
+        ensures value { result ≡ self.now.item.head }
+        ensures fits { FitsRecord self.now.header self.now.item }
+        ensures rules { KeepsRules self.now.header self.now.item.head }
+    {
+        read_head(self.octets)
+    }
+
+    /// The base address of the writes, 0 where there are none.
+    pub fn write_base(&self) -> u64
+        ensures value { result ≡ self.now.item.write_base }
+        ensures most { result < 256 ^ width_octets self.now.header.address }
+    {
+        base_at(
+            self.header,
+            self.octets,
+            unit_len(self.header),
+            self.octets[2],
+        )
+    }
+
+    /// The value of number i, from 0.
+    pub fn value(&self, i: usize) -> u64
+        requires there { i < self.now.item.head.writes }
+        ensures value { result ≡ slice_index self.now.item.values i }
+        ensures most { result < 256 ^ width_octets self.now.header.port }
+    {
+        number_at(
+            self.header,
+            self.header.port,
+            self.octets,
+            unit_len(self.header),
+            self.octets[2],
+            i,
+        )
+    }
+
+    /// The base address of the reply, 0 where nothing is read.
+    pub fn return_base(&self) -> u64
+        ensures value { result ≡ self.now.item.return_base }
+        ensures most { result < 256 ^ width_octets self.now.header.address }
+    {
+        base_at(
+            self.header,
+            self.octets,
+            second_part(self.header, self.octets),
+            self.octets[3],
+        )
+    }
+
+    /// The address of number i, from 0, that is read.
+    pub fn address(&self, i: usize) -> u64
+        requires there { i < self.now.item.head.reads }
+        ensures value { result ≡ slice_index self.now.item.addresses i }
+        ensures most { result < 256 ^ width_octets self.now.header.address }
+    {
+        number_at(
+            self.header,
+            self.header.address,
+            self.octets,
+            second_part(self.header, self.octets),
+            self.octets[3],
+            i,
+        )
+    }
+}
