@@ -4,6 +4,7 @@ use Rattle.eb_base.specs.declared.width.Width.{Width}
 use Rattle.eb_base.specs.declared.width.Width.TheVariants.{W8, W16, W32, W64}
 use Rattle.eb_base.specs.Width.{octets}
 use Rattle.eb_base.specs.Field.{number_at}
+use Rattle.eb_codec.specs.declared.flags.TheConstants.{NR, PF}
 use Rattle.eb_codec.specs.declared.item.Header.{Header}
 use Rattle.eb_codec.specs.declared.item.Probe.{Probe}
 use Rattle.eb_codec.specs.declared.item.RecordHead.{RecordHead}
@@ -18,11 +19,11 @@ width_of b = if b == 8 then W64 else (if b == 4 then W32 else (if b == 2 then W1
 
 -- the header that the octets are
 abbrev pub header_of : List ℕ → Header
-header_of o = record { no_reply = has (slice_index o 2) 0x04; address = width_of (slice_index o 3 / 16); port = width_of (slice_index o 3 % 16) }
+header_of o = record { no_reply = has (slice_index o 2) NR; address = width_of (slice_index o 3 / 16); port = width_of (slice_index o 3 % 16) }
 
 -- the probe that the octets are
 abbrev pub probe_of : List ℕ → Probe
-probe_of o = record { no_reply = has (slice_index o 2) 0x04; widths = record { addresses = slice_index o 3 / 16; ports = slice_index o 3 % 16 }; id = number_at W32 o 4 }
+probe_of o = record { no_reply = has (slice_index o 2) NR; widths = record { addresses = slice_index o 3 / 16; ports = slice_index o 3 % 16 }; id = number_at W32 o 4 }
 
 -- the octets of a base and n numbers
 abbrev pub part_octets : Header → ℕ → ℕ
@@ -39,7 +40,7 @@ record_octets h w r = body_octets h w r + gap (unit_octets h) (body_octets h w r
 
 -- How many octets the item has that begins so: its first four say it.
 unfoldable pub size : Option Header → List ℕ → ℕ
-size None o = if has (slice_index o 2) 0x01 then 8 else unit_octets (header_of o)
+size None o = if has (slice_index o 2) PF then 8 else unit_octets (header_of o)
 size (Some h) o = record_octets h (slice_index o 2) (slice_index o 3)
 
 -- the number at the end of a field that begins at a place
@@ -75,5 +76,5 @@ record_of h o =
 
 -- the item that the octets are
 unfoldable pub item_in : Option Header → List ℕ → StreamItem
-item_in None o = if has (slice_index o 2) 0x01 then Probed (probe_of o) else Headed (header_of o)
+item_in None o = if has (slice_index o 2) PF then Probed (probe_of o) else Headed (header_of o)
 item_in (Some h) o = Recorded (record_of h o)

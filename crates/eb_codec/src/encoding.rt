@@ -5,6 +5,7 @@ ghost use Rattle.eb_codec.specs.Sizes.{field_octets, gap};
 ghost use Rattle.eb_codec.specs.Form.{zeroed, field, part, header_form, probe_form, record_form, FitsProbe, FitsRecord, KeepsRules};
 ghost use Rattle.eb_codec.specs.Reading.{part_octets, record_octets};
 
+use crate::flags::{MAGIC, NR, PF, VERSION};
 use crate::item::{Header, Probe, Record};
 use crate::sizes::{field_len, record_len, trailing, unit_len};
 use crate::words::Words;
@@ -141,8 +142,8 @@ pub fn encode_record(header: &Header, item: &Record, out: &mut Vec<u8>) -> Resul
     Ok(())
 }
 
-/// Appends the octets of a header, with zero padding: the magic, 0x4E 0x6F; version 1 in the high half of an octet whose bit
-/// 0x04 says that no reply is wanted; the bits of the address width and the port width in the halves of the next. They are 4
+/// Appends the octets of a header, with zero padding: the magic; version 1 in the high half of an octet whose flag NR
+/// says that no reply is wanted; the bits of the address width and the port width in the halves of the next. They are 4
 /// octets, and 8 where one of the widths is 64 bits.
 ///
 /// Room for all of them is taken first: after `NoMemory` nothing has been appended.
@@ -154,12 +155,16 @@ pub fn encode_header(header: &Header, out: &mut Vec<u8>) -> Result<(), NoMemory>
     if out.reserve(unit).is_err() {
         return Err(NoMemory);
     }
-    let version = if header.no_reply { 0x14 } else { 0x10 };
+    let version = if header.no_reply {
+        VERSION + NR
+    } else {
+        VERSION
+    };
     put(
         out,
         &[
-            0x4e,
-            0x6f,
+            MAGIC[0],
+            MAGIC[1],
             version,
             16 * header.address.bit() + header.port.bit(),
         ],
@@ -168,7 +173,7 @@ pub fn encode_header(header: &Header, out: &mut Vec<u8>) -> Result<(), NoMemory>
     Ok(())
 }
 
-/// Appends the 8 octets of a probe: the magic, version 1 with the probe flag 0x01, the two sets of widths in the halves of an
+/// Appends the 8 octets of a probe: the magic, version 1 with the flag PF, the two sets of widths in the halves of an
 /// octet, and the id, its highest octet first. A slave answers it where it has a width of each set.
 ///
 /// Room for all of them is taken first: after `NoMemory` nothing has been appended.
@@ -181,12 +186,16 @@ pub fn encode_probe(probe: &Probe, out: &mut Vec<u8>) -> Result<(), NoMemory>
     if out.reserve(8).is_err() {
         return Err(NoMemory);
     }
-    let version = if probe.no_reply { 0x15 } else { 0x11 };
+    let version = if probe.no_reply {
+        VERSION + NR + PF
+    } else {
+        VERSION + PF
+    };
     put(
         out,
         &[
-            0x4e,
-            0x6f,
+            MAGIC[0],
+            MAGIC[1],
             version,
             16 * probe.widths.addresses + probe.widths.ports,
         ],

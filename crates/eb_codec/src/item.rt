@@ -22,7 +22,7 @@ pub struct Probe {
 /// The first four octets of a record: its flags, the byte enable of each access (bit i selects octet i of a word, the lowest
 /// being the least significant), and how many values it writes and addresses it reads.
 ///
-/// The flags are BCA 0x80, RCA 0x40, RFF 0x20, CYC 0x08, WCA 0x04 and WFF 0x02; 0x10 and 0x01 are reserved.
+/// The flags are those of `flags`.
 #[derive(Clone, Copy, Debug, PartialEq, Eq)]
 pub struct RecordHead {
     pub flags: u8,
@@ -46,18 +46,18 @@ pub struct Record {
 /// of them is told. Places count from the item's first octet as 0.
 #[derive(Clone, Copy, Debug, PartialEq, Eq)]
 pub enum Why {
-    /// Octet 0 or 1 of a header or probe isn't the magic, 0x4E 0x6F.
+    /// Octet 0 or 1 of a header or probe isn't the magic.
     Magic,
     /// The high half of octet 2 isn't version 1.
     Version,
-    /// Octet 2 has the flag PR, 0x02: an answer to a probe.
+    /// Octet 2 has the flag PR: an answer to a probe.
     Response,
-    /// Octet 2 has the reserved bit, 0x08.
+    /// Octet 2 has the reserved bit.
     Reserved,
     /// Octet 3 of a probe has a set with no width that the slave has; that of a header a half that isn't exactly one width
     /// that the slave has.
     Width,
-    /// Octet 0 of a record has the flag 0x10 or 0x01.
+    /// Octet 0 of a record has a reserved bit.
     Flag,
     /// Octet 1 of a record enables an octet beyond the port: it is `2^P` or more, for a port of P octets.
     Beyond,

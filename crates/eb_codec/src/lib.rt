@@ -7,6 +7,7 @@
 pub mod decoder;
 pub mod encoding;
 pub mod event;
+pub mod flags;
 pub mod item;
 pub mod laws;
 mod reading;
