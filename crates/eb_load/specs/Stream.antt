@@ -2,6 +2,7 @@
 use Rattle.std.specs.Prelude.{ℕ, zero, suc, ◌+◌, ◌*◌, ◌%◌, ◌≤◌, List, [], ◌∷◌, ◌++◌, length, None, false}
 use Rattle.eb_base.specs.declared.width.Width.TheVariants.{W32}
 use Rattle.eb_base.specs.declared.width.Widths.{Widths}
+use Rattle.eb_codec.specs.declared.flags.TheConstants.{BCA, CYC}
 use Rattle.eb_codec.specs.declared.item.Header.{Header}
 use Rattle.eb_codec.specs.declared.item.Record.{Record}
 use Rattle.eb_codec.specs.Form.{zeroed, header_form, record_form}
@@ -48,7 +49,7 @@ after_record x = after (read_count x) (after_values x)
 -- each record is a bus cycle by itself. All four octets of the port are enabled.
 unfoldable pub load_record : ℕ → Record
 load_record x = record {
-  head = record { flags = 0x88; enable = 0x0F; writes = write_count x; reads = read_count x };
+  head = record { flags = BCA + CYC; enable = 0x0F; writes = write_count x; reads = read_count x };
   write_base = write_base x;
   values = values_from (write_count x) (after 3 x);
   return_base = 0;

@@ -8,6 +8,7 @@ ghost use Rattle.eb_load.specs.Stream.{values_from, addresses_from, after_record
 use crate::draws::Draws;
 use crate::octets::put;
 use arrayvec::ArrayVec;
+use eb_codec::flags::{BCA, CYC};
 
 // The octets of a record or the header, in place.
 pub type Piece = ArrayVec<u8, 44>;
@@ -59,7 +60,7 @@ pub fn next_record(draws: &mut Draws) -> Piece
     let base = 4 * (draws.draw() % 16_380);
     let reads = 1 + draws.draw() % 4;
     let mut out = Piece::new();
-    put(&mut out, &[0x88, 0x0f, writes as u8, reads as u8]);
+    put(&mut out, &[BCA + CYC, 0x0f, writes as u8, reads as u8]);
     put_number(&mut out, base);
     put_values(&mut out, draws, writes);
     put_number(&mut out, 0);

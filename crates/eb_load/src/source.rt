@@ -5,6 +5,7 @@ ghost use Rattle.eb_load.specs.Stream.{load_octets, octets_of_records};
 use crate::draws::Draws;
 use crate::octets::put;
 use crate::record::{Piece, next_record};
+use eb_codec::flags::{MAGIC, VERSION};
 use eb_io::{Got, Source};
 
 /// The generated stream: the header, then records of one to four writes and one to four reads each.
@@ -33,7 +34,7 @@ impl LoadSource {
         ensures tells { reading_of result ≡ record { given = Some []; left = Some (load_octets start records); faults = 0 } }
     {
         let mut piece = Piece::new();
-        put(&mut piece, &[0x4e, 0x6f, 0x10, 0x44]);
+        put(&mut piece, &[MAGIC[0], MAGIC[1], VERSION, 0x44]);
         LoadSource {
             start,
             total: records,
