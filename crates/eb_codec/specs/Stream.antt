@@ -74,6 +74,10 @@ pub record IsFirstBad (sets : Widths) (header : Option Header) (octets : List �
   pub ends : (items : List StreamItem) (more : List ℕ) → SpellsAll sets header items (take (p + 1) octets ++ more) → ⊥
   pub broken_rule : (items : List StreamItem) × (a b : List ℕ) × (k : ℕ) × (octets ≡ a ++ b) × SpellsAll sets header items a × (p ≡ length a + k) × (broken sets (header_after_all header items) b k ≡ Some why)
 
+-- No octet is bad.
+abbrev pub HasNoBad : Widths → List ℕ → Type 0
+HasNoBad sets octets = (p : ℕ) (why : Why) → IsFirstBad sets None octets p why → ⊥
+
 -- The octets are a proper prefix of an item that may stand here, and none at all is one too.
 abbrev pub IsPartial : Widths → Option Header → List ℕ → Type 0
 IsPartial sets header octets = (item : StreamItem) × (b : ℕ) × (more : List ℕ) × Spells sets header item (octets ++ b ∷ more) × IsBytes (b ∷ more)
