@@ -1,3 +1,4 @@
 pub mod Running
 pub mod Reaching
-pub mod Wholes
+pub mod HistoryLemmas
+pub mod EndingLemmas
