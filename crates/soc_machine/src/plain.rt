@@ -70,17 +70,11 @@ impl Master for PlainMaster {
     ghost use Rattle.eb_base.specs.declared.width.Width.TheVariants.{W32};
     ghost use Rattle.soc_machine.specs.Machine.{MachineState};
 
-    ghost bus = { λ _. W32 };
-
-    ghost number = { λ p. p.number };
+    ghost cycles = { λ p. record { made = p.made; opened = p.opened } };
 
     ghost Kept = { MachineState };
 
-    ghost kept = { λ p. p.began };
-
-    ghost made = { λ p. p.made };
-
-    ghost opened = { λ p. p.opened };
+    ghost identity = { λ p. record { bus = W32; number = p.number; kept = p.began } };
 
     ghost answered = { λ p. p.answered };
 

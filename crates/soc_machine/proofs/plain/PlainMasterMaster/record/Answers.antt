@@ -1,11 +1,11 @@
 -- A record adds its pairs, and with its last operations a legal entry.
 use Rattle.std.proofs.Common.{◌≡◌, ◌++◌, List, ap, sym, ◌∙◌}
 use Rattle.wb_signals.specs.History.{Pair, cycle}
-use Rattle.wb_signals.specs.Cycles.{made_after, opened_after}
+use Rattle.wb_signals.specs.Cycles.{made_after}
 use Rattle.soc_journal.specs.Journal.{JournalState}
 use Rattle.soc_machine.specs.Machine.{wiring_of}
 use Rattle.soc_machine.specs.Plain.{PlainState, plain}
-use Rattle.soc_machine.proofs.PlainLemmas.{recorded, told, count-told}
+use Rattle.soc_machine.proofs.PlainLemmas.{recorded, added_told, count-told}
 use Rattle.soc_machine.proofs.plain.PlainMasterMaster.record.Goals as goal
 
 pub invariant_of-self-2 : goal.invariant_of-self-2
@@ -23,22 +23,12 @@ returns-clause-answers c =
     let inside = c.self.inside in
     count-told inside.machine c.args.ops.now c.run.new.answers.items c.run.ensures.answers
 
-pub returns-clause-made : goal.returns-clause-made
-returns-clause-made c =
+pub returns-clause-ran : goal.returns-clause-ran
+returns-clause-ran c =
     let inside = c.self.inside in
-    let now = c.args.self.now in
     let pairs : c.run.new.pairs.items ≡ inside.opened.items ++ cycle (wiring_of inside.machine) inside.machine.contents c.args.ops.now =
     c.run.ensures.pairs ∙ ap (λ (ps : List Pair). ps ++ cycle (wiring_of inside.machine) inside.machine.contents c.args.ops.now) c.make_room.ensures.pairs in
-    c.end_if.ensures.entries
-    ∙ ap (λ (j : JournalState). made_after inside.number j.entries c.run.new.pairs.items c.args.last) c.in_ok-reserve.ensures.ok
-    ∙ ap (λ (p : PlainState). made_after p.number p.made c.run.new.pairs.items c.args.last) c.self.view_is
-    ∙ ap (λ (ps : List Pair). made_after now.number now.made ps c.args.last) (told (plain inside.began.value inside.machine inside.number inside.journal.entries inside.opened.items inside.answers.items) now c.args.ops.now c.run.new.pairs.items c.run.new.answers.items c.self.view_is pairs c.run.ensures.answers)
-
-pub returns-clause-opened : goal.returns-clause-opened
-returns-clause-opened c =
-    let inside = c.self.inside in
-    let now = c.args.self.now in
-    let pairs : c.run.new.pairs.items ≡ inside.opened.items ++ cycle (wiring_of inside.machine) inside.machine.contents c.args.ops.now =
-    c.run.ensures.pairs ∙ ap (λ (ps : List Pair). ps ++ cycle (wiring_of inside.machine) inside.machine.contents c.args.ops.now) c.make_room.ensures.pairs in
-    c.end_if.ensures.opened
-    ∙ ap (λ (ps : List Pair). opened_after ps c.args.last) (told (plain inside.began.value inside.machine inside.number inside.journal.entries inside.opened.items inside.answers.items) now c.args.ops.now c.run.new.pairs.items c.run.new.answers.items c.self.view_is pairs c.run.ensures.answers)
+    let made : c.end_if.new.journal.entries ≡ made_after inside.number inside.journal.entries c.run.new.pairs.items c.args.last =
+    c.end_if.ensures.entries ∙ ap (λ (j : JournalState). made_after inside.number j.entries c.run.new.pairs.items c.args.last) c.in_ok-reserve.ensures.ok in
+    added_told (plain inside.began.value inside.machine inside.number inside.journal.entries inside.opened.items inside.answers.items) c.args.self.now c.args.ops.now c.args.last c.run.new.pairs.items c.run.new.answers.items
+    c.end_if.new.journal.entries c.end_if.new.opened.items c.self.view_is c.requires.can.some pairs c.run.ensures.answers made c.end_if.ensures.opened
