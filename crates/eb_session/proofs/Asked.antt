@@ -1,5 +1,5 @@
 -- What a record asks and what it is answered.
-use Rattle.std.proofs.Common.{◌≡◌, ℕ, zero, suc, ◌+◌, ◌-◌, ◌<◌, ◌≤◌, ◌==◌, ◌&&◌, ◌||◌, Bool, true, false, not, if◌then◌else◌, List, [], ◌∷◌, ◌++◌, length, take, replicate, refl, sym, ap, ◌∙◌, arith, length-append}
+use Rattle.std.proofs.Common.{◌≡◌, ℕ, zero, suc, ◌+◌, ◌-◌, ◌<◌, ◌≤◌, ◌==◌, Bool, true, false, if◌then◌else◌, List, [], ◌∷◌, ◌++◌, length, take, replicate, refl, sym, ap, ◌∙◌, arith, length-append}
 use Rattle.std.proofs.lemmas.List.{append-nil, append_assoc, take_at}
 use Rattle.std.specs.List.{flat_map}
 use Rattle.eb_base.specs.declared.width.Width.{Width}
@@ -14,12 +14,10 @@ use Rattle.eb_codec.proofs.Zeroed.{zeroed-append, zeroed-padding, zeroed_part}
 use Rattle.eb_codec.proofs.RecordLemmas.{length-record_body}
 use Rattle.wb_signals.specs.Request.{Request}
 use Rattle.wb_signals.specs.declared.answer.Answer.{Answer}
-use Rattle.wb_signals.specs.History.{Pair}
-use Rattle.wb_signals.specs.Cycles.{paired, opened_after}
 use Rattle.eb_session.specs.Operations.{upto, write_at, read_at, bus_writes, bus_reads, record_ops}
-use Rattle.eb_session.specs.Replies.{Slave, read_word, record_reply, answering, reply_flags}
-use Rattle.eb_session.specs.Shown.{answered_to}
-use Rattle.eb_session.specs.Keeping.{is_some}
+use Rattle.eb_session.specs.declared.slave.Slave.{Slave}
+use Rattle.eb_session.specs.Replies.{read_word, record_reply, answering, reply_flags}
+use Rattle.eb_session.specs.Operations.{answered_to}
 use Rattle.eb_session.proofs.Fitting.{length-upto}
 
 pub length-record_ops : (bus : Width) (h : Header) (r : Record) → length (record_ops bus h r) ≡ bus_writes r + bus_reads r
@@ -41,14 +39,6 @@ enough bus h r (x ∷ ops) answers is e = let n : length (x ∷ ops) ≡ bus_wri
 
 pos : (n : ℕ) → (suc n == 0) ≡ false
 pos n = grind arith
-
-pub still_open : (last opened : Bool) (count : ℕ) (p : List Pair) (ops : List Request) (answers : List Answer) → opened ≡ is_some p → count ≡ length ops → length answers ≡ length ops
-    → (not last && (opened || not (count == 0))) ≡ is_some (opened_after (p ++ paired ops answers) last)
-still_open true opened count p ops answers o c e = refl
-still_open false opened count (x ∷ p) ops answers o c e = ap (λ (b : Bool). b || not (count == 0)) o
-still_open false opened count [] [] answers o c e = ap (λ (b : Bool). b || not (count == 0)) o ∙ ap (λ (n : ℕ). not (n == 0)) c
-still_open false opened count [] (r ∷ ops) [] o c e = absurd (omega arith)
-still_open false opened count [] (r ∷ ops) (a ∷ answers) o c e = ap (λ (b : Bool). b || not (count == 0)) o ∙ ap (λ (n : ℕ). not (n == 0)) c ∙ ap not (pos (length ops))
 
 upto_same : {A : Type 0} (n : ℕ) (f g : ℕ → A) → ((i : ℕ) → f i ≡ g i) → upto n f ≡ upto n g
 upto_same zero f g same = refl
@@ -89,6 +79,7 @@ no_part : (g : Header) → [] ≡ zeroed (part g g.address 0 [])
 unfolding part
 no_part g = refl
 
+-- `head` is the record's own.
 pub words_reply : (s : Slave) (h : Header) (r : Record) (head : RecordHead) (answers : List Answer) (errors : ℕ) (start a b c d e : List ℕ) (flags unit pad : ℕ) → r.head ≡ head → 0 < head.reads → flags ≡ reply_flags head.flags → unit ≡ unit_octets h
     → pad ≡ gap (unit_octets h) (body_octets h head.reads 0)
     → a ≡ start ++ (flags ∷ head.enable ∷ head.reads ∷ 0 ∷ []) → b ≡ a ++ replicate (unit - 4) 0 → c ≡ b ++ zeroed (field h h.address r.return_base)

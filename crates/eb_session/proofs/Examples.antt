@@ -11,12 +11,16 @@ use Rattle.wb_signals.specs.Request.{Request, placed}
 use Rattle.wb_signals.specs.Content.{Content}
 use Rattle.wb_signals.specs.Wiring.{Wiring, stepped}
 use Rattle.wb_signals.specs.Bus.{bus}
-use Rattle.wb_signals.specs.History.{Entry, cycle, contents_after, after}
+use Rattle.wb_signals.specs.History.{Group, Entry, given, cycle, contents_after, after}
 use Rattle.wb_signals.specs.Ram.{ram_wiring, ram_contents}
 use Rattle.wb_signals.specs.declared.answer.Answer.TheVariants.{Ack, Err, Rty}
-use Rattle.eb_session.specs.Cycles.{Group, cycles, given}
+use Rattle.eb_session.specs.Cycles.{groups_in}
 use Rattle.eb_session.specs.Configuration.{config_word}
-use Rattle.eb_session.specs.Replies.{slave, replies}
+use Rattle.eb_session.specs.declared.slave.Slave.{Slave}
+use Rattle.eb_session.specs.Replies.{replies}
+
+abbrev slave : Width → ℕ → Slave
+slave bus root = record { bus = bus; root = root }
 
 -- The header of captures of whole 32-bit words, and the items of such a capture.
 abbrev header : Header
@@ -32,7 +36,7 @@ entries wiring contents (g ∷ gs) = record { master = 0; cut = g.cut; pairs = c
 
 -- The entries of items on a RAM, and the reply.
 abbrev run : List ℕ → List StreamItem → List Entry
-run ram items = entries (ram_wiring (length ram)) (ram_contents ram) (cycles W32 items)
+run ram items = entries (ram_wiring (length ram)) (ram_contents ram) (groups_in W32 items)
 
 abbrev replied : List ℕ → List StreamItem → List ℕ
 replied ram items = replies (slave W32 0) items (given (run ram items))
@@ -73,7 +77,7 @@ write_request = record { write = true; adr = 0x10; dat = 0xDEADBEEF; sel = 0x0F 
 abbrev read_request : Request
 read_request = record { write = false; adr = 0x10; dat = 0; sel = 0x0F }
 
-pub word_cycles : cycles W32 (items_of (one_write ∷ one_read ∷ [])) ≡ record { cut = false; ops = write_request ∷ [] } ∷ record { cut = false; ops = read_request ∷ [] } ∷ []
+pub word_cycles : groups_in W32 (items_of (one_write ∷ one_read ∷ [])) ≡ record { cut = false; ops = write_request ∷ [] } ∷ record { cut = false; ops = read_request ∷ [] } ∷ []
 unfolding placed
 word_cycles = refl
 
@@ -92,7 +96,7 @@ unfolding placed bus stepped octets_of number part
 word_replied = refl
 
 -- A record with no access is no cycle and has no answer.
-pub empty_cycles : cycles W32 (items_of (writes_of 0x08 0x0F 0 [] ∷ [])) ≡ []
+pub empty_cycles : groups_in W32 (items_of (writes_of 0x08 0x0F 0 [] ∷ [])) ≡ []
 empty_cycles = refl
 
 pub empty_replied : replied (zeros 16) (items_of (writes_of 0x08 0x0F 0 [] ∷ [])) ≡ 0x4E ∷ 0x6F ∷ 0x14 ∷ 0x44 ∷ []
@@ -102,7 +106,7 @@ empty_replied = refl
 abbrev octet_items : List StreamItem
 octet_items = Headed (header_of W32 W8) ∷ Recorded (writes_of 0x08 1 0x10 (0xDE ∷ 0xAD ∷ 0xBE ∷ 0xEF ∷ [])) ∷ Recorded (reads_of 0x88 1 0 (0x11 ∷ [])) ∷ []
 
-pub octet_cycles : cycles W32 octet_items
+pub octet_cycles : groups_in W32 octet_items
     ≡ record {
       cut = false;
       ops = record { write = true; adr = 0x10; dat = 0xDE000000; sel = 8 } ∷ record { write = true; adr = 0x10; dat = 0xAD0000; sel = 4 }
@@ -160,7 +164,7 @@ unfolding placed octets_of number part config_word
 register_replied = refl
 
 -- A cycle that no record ends is cut.
-pub open_cycles : cycles W32 (items_of (writes_of 0x00 0x0F 0x10 (7 ∷ []) ∷ []))
+pub open_cycles : groups_in W32 (items_of (writes_of 0x00 0x0F 0x10 (7 ∷ []) ∷ []))
     ≡ record { cut = true; ops = record { write = true; adr = 0x10; dat = 7; sel = 0x0F } ∷ [] } ∷ []
 unfolding placed
 open_cycles = refl
@@ -181,7 +185,7 @@ silent_left = refl
 abbrev fifo_items : List StreamItem
 fifo_items = items_of (record { head = record { flags = 0xAA; enable = 0x0F; writes = 2; reads = 1 }; write_base = 0x40; values = 1 ∷ 2 ∷ []; return_base = 0x44; addresses = 0x40 ∷ [] } ∷ [])
 
-pub fifo_cycles : cycles W32 fifo_items
+pub fifo_cycles : groups_in W32 fifo_items
     ≡ record {
       cut = false;
       ops = record { write = true; adr = 0x40; dat = 1; sel = 0x0F } ∷ record { write = true; adr = 0x40; dat = 2; sel = 0x0F }
@@ -199,7 +203,7 @@ fifo_replied = refl
 abbrev wide_items : List StreamItem
 wide_items = Headed (header_of W32 W16) ∷ Recorded (writes_of 0x00 3 0x12 (0xBEEF ∷ 0xCAFE ∷ [])) ∷ Recorded (reads_of 0x88 1 0 (0x13 ∷ 0x16 ∷ [])) ∷ []
 
-pub wide_cycles : cycles W64 wide_items
+pub wide_cycles : groups_in W64 wide_items
     ≡ record {
       cut = false;
       ops = record { write = true; adr = 0x10; dat = 0xBEEF00000000; sel = 0x30 } ∷ record { write = true; adr = 0x10; dat = 0xCAFE0000; sel = 0x0C }

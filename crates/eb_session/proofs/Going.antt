@@ -1,32 +1,32 @@
 -- A session from its beginning on: one more item.
 use Rattle.std.proofs.Common.{◌≡◌, ℕ, ◌+◌, ◌≤◌, Bool, true, false, List, [], ◌∷◌, ◌++◌, length, map, take, drop, Option, None, refl, sym, ap, ◌∙◌, subst, arith, length-append, lit<}
+use Rattle.std.specs.List.{All}
 use Rattle.std.proofs.lemmas.List.{append_assoc, append-nil, map-append, take-append-drop, take_at, take-append-le, drop-append-le, length-take-le, length-drop}
 use Rattle.eb_base.specs.declared.width.Width.{Width}
-use Rattle.eb_codec.specs.declared.item.Header.{Header}
-use Rattle.eb_codec.specs.Stream.{header_after, header_after_all}
-use Rattle.eb_codec.specs.Stream.{StreamItem}
-use Rattle.wb_signals.specs.Request.{Request}
-use Rattle.wb_signals.specs.declared.answer.Answer.{Answer}
-use Rattle.wb_signals.specs.History.{Pair, Entry, requests_of, answers_of}
-use Rattle.wb_signals.specs.Cycles.{paired}
-use Rattle.eb_session.specs.Cycles.{Group, Cut, group, cut_more, cut_from, cut_of, item_ops, item_ends, marked, given, count_from}
-use Rattle.eb_session.specs.Replies.{Slave, sets_of, item_reply, replies_from, replies}
-use Rattle.eb_session.specs.Configuration.{register}
-use Rattle.eb_session.specs.Keeping.{Kept, MasterCycles, Added, Ran, made_with}
-use Rattle.eb_session.specs.Course.{all_given, IsOn}
-use Rattle.eb_base.specs.declared.width.Widths.{Widths}
 use Rattle.eb_base.specs.declared.width.Width.TheVariants.{W8, W16, W32, W64}
-use Rattle.eb_codec.specs.Stream.{HaveWidths, Spells, SpellsAll, IsPartial}
+use Rattle.eb_base.specs.declared.width.Widths.{Widths}
+use Rattle.eb_codec.specs.declared.item.Header.{Header}
+use Rattle.eb_codec.specs.Decoding.{Progress}
+use Rattle.eb_codec.specs.Stream.{StreamItem, HaveWidths, Spells, SpellsAll, IsPartial, header_after, header_after_all}
 use Rattle.eb_codec.proofs.ItemLemmas.{size-ge}
 use Rattle.eb_codec.proofs.Completion.{is_partial}
-use Rattle.eb_codec.specs.Decoding.{Progress}
 use Rattle.eb_codec.proofs.StreamLemmas.{spells_one, spells_append, header_after_all-append}
+use Rattle.wb_signals.specs.Request.{Request}
+use Rattle.wb_signals.specs.declared.answer.Answer.{Answer}
+use Rattle.wb_signals.specs.History.{Pair, Entry, Group, group, marked, requests_of, answers_of, given}
+use Rattle.wb_signals.specs.Cycles.{MasterCycles, paired, made_with, pairs_added}
+use Rattle.wb_signals.proofs.CycleLemmas.{requests_of-append}
+use Rattle.eb_session.specs.declared.slave.Slave.{Slave}
+use Rattle.eb_session.specs.Cycles.{Cycles, no_cycles, cycles_more, cycles_from, cycles_in, item_ops, item_ends, count_from}
+use Rattle.eb_session.specs.Replies.{sets_of, item_reply, replies_from, replies}
+use Rattle.eb_session.specs.Configuration.{register}
+use Rattle.eb_session.specs.Keeping.{SessionState, Ran}
+use Rattle.eb_session.specs.Course.{SoFar, gone_on, answers_in, IsOn}
 use Rattle.eb_session.proofs.Fitting.{register-append, All-more}
-use Rattle.std.specs.List.{All}
 
-pub cut_from-more : (bus : Width) (header : Option Header) (c : Cut) (xs : List StreamItem) (x : StreamItem) → cut_from bus header c (xs ++ x ∷ []) ≡ cut_more (cut_from bus header c xs) (item_ops bus (header_after_all header xs) x) (item_ends x)
-cut_from-more bus header c [] x = refl
-cut_from-more bus header c (y ∷ xs) x = cut_from-more bus (header_after header y) (cut_more c (item_ops bus header y) (item_ends y)) xs x
+pub cycles_from-more : (bus : Width) (header : Option Header) (c : Cycles) (xs : List StreamItem) (x : StreamItem) → cycles_from bus header c (xs ++ x ∷ []) ≡ cycles_more (cycles_from bus header c xs) (item_ops bus (header_after_all header xs) x) (item_ends x)
+cycles_from-more bus header c [] x = refl
+cycles_from-more bus header c (y ∷ xs) x = cycles_from-more bus (header_after header y) (cycles_more c (item_ops bus header y) (item_ends y)) xs x
 
 pub requests-paired : (rs : List Request) (answers : List Answer) → length answers ≡ length rs → requests_of (paired rs answers) ≡ rs
 requests-paired [] answers e = refl
@@ -39,10 +39,6 @@ answers-paired [] (a ∷ answers) e = absurd (omega arith)
 answers-paired (r ∷ rs) [] e = absurd (omega arith)
 answers-paired (r ∷ rs) (a ∷ answers) e = ap (λ (l : List Answer). a ∷ l) (answers-paired rs answers (omega arith))
 
-pub requests-append : (p q : List Pair) → requests_of (p ++ q) ≡ requests_of p ++ requests_of q
-requests-append [] q = refl
-requests-append (x ∷ p) q = ap (λ (l : List Request). x.request ∷ l) (requests-append p q)
-
 pub answers-append : (p q : List Pair) → answers_of (p ++ q) ≡ answers_of p ++ answers_of q
 answers-append [] q = refl
 answers-append (x ∷ p) q = ap (λ (l : List Answer). x.answer ∷ l) (answers-append p q)
@@ -52,63 +48,51 @@ given-append [] e = refl
 given-append (x ∷ d) e = ap (λ (l : List Answer). answers_of x.pairs ++ l) (given-append d e) ∙ sym (append_assoc (answers_of x.pairs) (given d) (given e))
 
 -- what the entries and the open pairs are after one more record
-pub record Grown (m : ℕ) (first : List Entry) (c : Cut) (entries : List Entry) (now : MasterCycles) (answers : List Answer) : Type 0 where
+pub record Grown (m : ℕ) (first : List Entry) (c : Cycles) (entries : List Entry) (now : MasterCycles) (answers : List Answer) : Type 0 where
   pub made : now.made ≡ first ++ entries
   pub whole : map marked entries ≡ c.whole
   pub opened : requests_of now.opened ≡ c.opened
-  pub all : all_given entries now.opened ≡ answers
+  pub all : given entries ++ answers_of now.opened ≡ answers
   pub mine : All (λ e. e.master ≡ m) entries
 
-module _ (m : ℕ) (first : List Entry) (c : Cut) (entries : List Entry) (old new : MasterCycles) (pairs : List Pair) (ops : List Request) (before : List Answer)
+module _ (m : ℕ) (first : List Entry) (c : Cycles) (entries : List Entry) (old : MasterCycles) (pairs : List Pair) (ops : List Request) (before : List Answer)
     (g : Grown m first c entries old before) (are : requests_of pairs ≡ ops) where
   requests : requests_of (old.opened ++ pairs) ≡ c.opened ++ ops
-  requests = requests-append old.opened pairs ∙ ap (λ (l : List Request). l ++ requests_of pairs) g.opened ∙ ap (λ (l : List Request). c.opened ++ l) are
+  requests = requests_of-append old.opened pairs ∙ ap (λ (l : List Request). l ++ requests_of pairs) g.opened ∙ ap (λ (l : List Request). c.opened ++ l) are
 
   alls : given entries ++ answers_of (old.opened ++ pairs) ≡ before ++ answers_of pairs
   alls = ap (λ (l : List Answer). given entries ++ l) (answers-append old.opened pairs) ∙ sym (append_assoc (given entries) (answers_of old.opened) (answers_of pairs)) ∙ ap (λ (l : List Answer). l ++ answers_of pairs) g.all
 
-  unmade : (made : List Entry) (l : List Pair) → made_with m made l false ≡ made
-  unmade made [] = refl
-  unmade made (p ∷ l) = refl
-
-  goes : Added m old new pairs false → Grown m first (cut_more c ops false) entries new (before ++ answers_of pairs)
-  goes a = record {
-    made = a.made ∙ unmade old.made (old.opened ++ pairs) ∙ g.made;
-    whole = g.whole;
-    opened = ap requests_of a.opened ∙ requests;
-    all = ap (λ (l : List Pair). given entries ++ answers_of l) a.opened ∙ alls;
-    mine = g.mine;
-  }
-
-  ends_by : (l : List Pair) → l ≡ old.opened ++ pairs → new.made ≡ made_with m old.made l true → new.opened ≡ [] → (more : List Entry) × Grown m first (cut_more c ops true) more new (before ++ answers_of pairs)
-  ends_by [] is made opened =
+  ends_by : (l : List Pair) → l ≡ old.opened ++ pairs
+      → (more : List Entry) × Grown m first (cycles_more c ops true) more (record { made = made_with m false old.made l; opened = [] }) (before ++ answers_of pairs)
+  ends_by [] is =
       let none : [] ≡ c.opened ++ ops = ap requests_of is ∙ requests in (
         entries,
         record {
-          made = made ∙ g.made;
+          made = g.made;
           whole = g.whole ∙ sym (append-nil c.whole) ∙ ap (λ (l : List Request). c.whole ++ group false l) none;
-          opened = ap requests_of opened;
-          all = ap (λ (l : List Pair). given entries ++ answers_of l) (opened ∙ is) ∙ alls;
+          opened = refl;
+          all = ap (λ (l : List Pair). given entries ++ answers_of l) is ∙ alls;
           mine = g.mine;
         },
       )
-  ends_by (p ∷ l) is made opened =
+  ends_by (p ∷ l) is =
       let some : requests_of (p ∷ l) ≡ c.opened ++ ops = ap requests_of is ∙ requests in
       let e : Entry = record { master = m; cut = false; pairs = p ∷ l } in (
         entries ++ e ∷ [],
         record {
-          made = made ∙ ap (λ (d : List Entry). d ++ e ∷ []) g.made ∙ append_assoc first entries (e ∷ []);
+          made = ap (λ (d : List Entry). d ++ e ∷ []) g.made ∙ append_assoc first entries (e ∷ []);
           whole = map-append marked entries (e ∷ []) ∙ ap (λ (d : List Group). d ++ group false (requests_of (p ∷ l))) g.whole ∙ ap (λ (d : List Request). c.whole ++ group false d) some;
-          opened = ap requests_of opened;
-          all = ap (λ (d : List Pair). given (entries ++ e ∷ []) ++ answers_of d) opened ∙ append-nil (given (entries ++ e ∷ [])) ∙ given-append entries (e ∷ [])
+          opened = refl;
+          all = append-nil (given (entries ++ e ∷ [])) ∙ given-append entries (e ∷ [])
               ∙ ap (λ (d : List Answer). given entries ++ d) (append-nil (answers_of (p ∷ l))) ∙ ap (λ (d : List Pair). given entries ++ answers_of d) is ∙ alls;
           mine = All-more (λ (x : Entry). x.master ≡ m) entries e g.mine refl;
         },
       )
 
-  pub grown : (last : Bool) → Added m old new pairs last → (more : List Entry) × Grown m first (cut_more c ops last) more new (before ++ answers_of pairs)
-  grown false a = (entries, goes a)
-  grown true a = ends_by (old.opened ++ pairs) refl a.made a.opened
+  pub grown : (last : Bool) → (more : List Entry) × Grown m first (cycles_more c ops last) more (pairs_added m old pairs last) (before ++ answers_of pairs)
+  grown false = (entries, record { made = g.made; whole = g.whole; opened = requests; all = alls; mine = g.mine })
+  grown true = ends_by (old.opened ++ pairs) refl
 
 pub count-more : (bus : Width) (header : Option Header) (xs : List StreamItem) (x : StreamItem) → count_from bus header (xs ++ x ∷ []) ≡ count_from bus header xs + length (item_ops bus (header_after_all header xs) x)
 count-more bus header [] x = omega arith
@@ -165,25 +149,29 @@ replies-front s header e (y ∷ xs) a b le =
     ∙ ap (λ (l : List ℕ). item_reply s header y (take n a) e ++ l) again
 
 -- one more item that ran
-pub goes_on : (m : ℕ) (first : MasterCycles) (octets taken : List ℕ) (items : List StreamItem) (old new : Kept) (before after : MasterCycles) (entries : List Entry) (joined : List ℕ) (x : StreamItem) (answers : List Answer)
-    → IsOn m first octets items old before entries joined → Ran m old new (old.progress.pending ++ taken) before after x answers
-    → (more : List Entry) × IsOn m first (octets ++ taken) (items ++ x ∷ []) new after more (joined ++ new.reply) × (all_given more after.opened ≡ all_given entries before.opened ++ answers)
-goes_on m first octets taken items old new before after entries joined x answers on ran =
+pub goes_on : (m : ℕ) (so : SoFar) (old new : SessionState) (taken : List ℕ) (before after : MasterCycles) (x : StreamItem) (answers : List Answer)
+    → IsOn m so old before → Ran m old new (old.progress.pending ++ taken) before after x answers
+    → (more : List Entry) × IsOn m (gone_on so taken (so.items ++ x ∷ []) more new.reply) new after × (given more ++ answers_of after.opened ≡ answers_in so before ++ answers)
+goes_on m so old new taken before after x answers on ran =
     let bus : Width = old.slave.bus in
+    let items : List StreamItem = so.items in
+    let told : List Answer = answers_in so before in
     let h : old.progress.header ≡ header_after_all None items = on.header in
     let ops : List Request = item_ops bus old.progress.header x in
     let ops' : List Request = item_ops bus (header_after_all None items) x in
     let pairs : List Pair = paired ops answers in
-    let g : Grown m first.made (cut_of bus items) entries before (all_given entries before.opened) = record { made = on.made; whole = on.whole; opened = on.opened; all = refl; mine = on.mine } in
-    let grow = grown m first.made (cut_of bus items) entries before after pairs ops (all_given entries before.opened) g (requests-paired ops answers ran.answered) (item_ends x) ran.added in
-    let more : List Entry = grow.0 in
-    let c' : cut_more (cut_of bus items) ops (item_ends x) ≡ cut_of bus (items ++ x ∷ []) =
-    ap (λ (q : Option Header). cut_more (cut_of bus items) (item_ops bus q x) (item_ends x)) h ∙ sym (cut_from-more bus None (record { whole = []; opened = [] }) items x) in
-    let c'' : cut_of bus (items ++ x ∷ []) ≡ cut_of new.slave.bus (items ++ x ∷ []) = ap (λ (s : Slave). cut_of s.bus (items ++ x ∷ [])) (sym ran.others.0) in
-    let is : all_given more after.opened ≡ all_given entries before.opened ++ answers = grow.1.all ∙ ap (λ (l : List Answer). all_given entries before.opened ++ l) (answers-paired ops answers ran.answered) in
+    let g : Grown m so.first.made (cycles_in bus items) so.entries before told = record { made = on.made; whole = on.whole; opened = on.opened; all = refl; mine = on.mine } in
+    let grow' = grown m so.first.made (cycles_in bus items) so.entries before pairs ops told g (requests-paired ops answers ran.answered) (item_ends x) in
+    let more : List Entry = grow'.0 in
+    let grow : Grown m so.first.made (cycles_more (cycles_in bus items) ops (item_ends x)) more after (told ++ answers_of pairs) =
+    subst (λ (c : MasterCycles). Grown m so.first.made (cycles_more (cycles_in bus items) ops (item_ends x)) more c (told ++ answers_of pairs)) (sym ran.added) grow'.1 in
+    let c' : cycles_more (cycles_in bus items) ops (item_ends x) ≡ cycles_in bus (items ++ x ∷ []) =
+    ap (λ (q : Option Header). cycles_more (cycles_in bus items) (item_ops bus q x) (item_ends x)) h ∙ sym (cycles_from-more bus None no_cycles items x) in
+    let c'' : cycles_in bus (items ++ x ∷ []) ≡ cycles_in new.slave.bus (items ++ x ∷ []) = ap (λ (s : Slave). cycles_in s.bus (items ++ x ∷ [])) (sym ran.others.0) in
+    let is : given more ++ answers_of after.opened ≡ told ++ answers = grow.all ∙ ap (λ (l : List Answer). told ++ l) (answers-paired ops answers ran.answered) in
     let lb : length answers ≡ length ops' = ran.answered ∙ ap (λ (q : Option Header). length (item_ops bus q x)) h in
-    let e : on.front.0 ++ (old.progress.pending ++ taken) ≡ octets ++ taken = sym (append_assoc on.front.0 old.progress.pending taken) ∙ ap (λ (l : List ℕ). l ++ taken) (sym on.front.1) in
-    let spelled : SpellsAll (sets_of bus) None (items ++ x ∷ []) (octets ++ taken) =
+    let e : on.front.0 ++ (old.progress.pending ++ taken) ≡ so.octets ++ taken = sym (append_assoc on.front.0 old.progress.pending taken) ∙ ap (λ (l : List ℕ). l ++ taken) (sym on.front.1) in
+    let spelled : SpellsAll (sets_of bus) None (items ++ x ∷ []) (so.octets ++ taken) =
     let s = subst (λ (q : Option Header). Spells (sets_of bus) q x (old.progress.pending ++ taken)) h (subst (λ (z : Widths). Spells z old.progress.header x (old.progress.pending ++ taken)) on.sets ran.spelled) in
     subst (λ (l : List ℕ). SpellsAll (sets_of bus) None (items ++ x ∷ []) l) e
     (spells_append (sets_of bus) None items (x ∷ []) on.front.0 (old.progress.pending ++ taken) on.front.2 (spells_one (sets_of bus) (header_after_all None items) x (old.progress.pending ++ taken) s)) in (
@@ -192,27 +180,27 @@ goes_on m first octets taken items old new before after entries joined x answers
         running = ran.others.1 ∙ on.running;
         sets = ap (λ (p : Progress). p.sets) ran.progress ∙ on.sets ∙ ap (λ (s : Slave). sets_of s.bus) (sym ran.others.0);
         front = (
-          octets ++ taken,
-          sym (append-nil (octets ++ taken)) ∙ ap (λ (p : Progress). (octets ++ taken) ++ p.pending) (sym ran.progress),
-          subst (λ (s : Slave). SpellsAll (sets_of s.bus) None (items ++ x ∷ []) (octets ++ taken)) (sym ran.others.0) spelled,
+          so.octets ++ taken,
+          sym (append-nil (so.octets ++ taken)) ∙ ap (λ (p : Progress). (so.octets ++ taken) ++ p.pending) (sym ran.progress),
+          subst (λ (s : Slave). SpellsAll (sets_of s.bus) None (items ++ x ∷ []) (so.octets ++ taken)) (sym ran.others.0) spelled,
         );
         partial = subst (λ (s : Slave). IsPartial (sets_of s.bus) (header_after_all None (items ++ x ∷ [])) new.progress.pending) (sym ran.others.0)
             (subst (λ (p : Progress). IsPartial (sets_of bus) (header_after_all None (items ++ x ∷ [])) p.pending) (sym ran.progress) (none_pends bus (header_after_all None (items ++ x ∷ []))));
         start = ap (λ (p : Progress). p.start) ran.progress ∙ ap (λ (n : ℕ). n + length (old.progress.pending ++ taken)) on.start ∙ sym (length-append on.front.0 (old.progress.pending ++ taken)) ∙ ap length e;
         header = ap (λ (p : Progress). p.header) ran.progress ∙ ap (λ (q : Option Header). header_after q x) h ∙ sym (header_after_all-append None items (x ∷ []));
         none_open = on.none_open;
-        made = grow.1.made;
-        mine = grow.1.mine;
-        whole = grow.1.whole ∙ ap (λ (c : Cut). c.whole) (c' ∙ c'');
-        opened = grow.1.opened ∙ ap (λ (c : Cut). c.opened) (c' ∙ c'');
-        count = ap length is ∙ length-append (all_given entries before.opened) answers ∙ ap (λ (n : ℕ). n + length answers) on.count ∙ ap (λ (n : ℕ). count_from bus None items + n) lb
+        made = grow.made;
+        mine = grow.mine;
+        whole = grow.whole ∙ ap (λ (c : Cycles). c.whole) (c' ∙ c'');
+        opened = grow.opened ∙ ap (λ (c : Cycles). c.opened) (c' ∙ c'');
+        count = ap length is ∙ length-append told answers ∙ ap (λ (n : ℕ). n + length answers) on.count ∙ ap (λ (n : ℕ). count_from bus None items + n) lb
             ∙ sym (count-more bus None items x) ∙ ap (λ (s : Slave). count_from s.bus None (items ++ x ∷ [])) (sym ran.others.0);
-        errors = ran.errors ∙ ap (λ (n : ℕ). register n answers) on.errors ∙ sym (register-append 0 (all_given entries before.opened) answers) ∙ ap (register 0) (sym is);
-        replied = ap (λ (l : List ℕ). joined ++ l) (ran.reply ∙ ap (λ (q : Option Header). item_reply old.slave q x answers old.errors) h ∙ ap (λ (n : ℕ). item_reply old.slave (header_after_all None items) x answers n) on.errors)
-            ∙ ap (λ (l : List ℕ). l ++ item_reply old.slave (header_after_all None items) x answers (register 0 (all_given entries before.opened))) on.replied
-            ∙ sym (replies-more old.slave None 0 items x (all_given entries before.opened) answers on.count lb)
+        errors = ran.errors ∙ ap (λ (n : ℕ). register n answers) on.errors ∙ sym (register-append 0 told answers) ∙ ap (register 0) (sym is);
+        replied = ap (λ (l : List ℕ). so.replied ++ l) (ran.reply ∙ ap (λ (q : Option Header). item_reply old.slave q x answers old.errors) h ∙ ap (λ (n : ℕ). item_reply old.slave (header_after_all None items) x answers n) on.errors)
+            ∙ ap (λ (l : List ℕ). l ++ item_reply old.slave (header_after_all None items) x answers (register 0 told)) on.replied
+            ∙ sym (replies-more old.slave None 0 items x told answers on.count lb)
             ∙ ap (λ (l : List Answer). replies old.slave (items ++ x ∷ []) l) (sym is)
-            ∙ ap (λ (s : Slave). replies s (items ++ x ∷ []) (all_given more after.opened)) (sym ran.others.0);
+            ∙ ap (λ (s : Slave). replies s (items ++ x ∷ []) (given more ++ answers_of after.opened)) (sym ran.others.0);
       },
       is,
     )

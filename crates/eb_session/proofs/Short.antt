@@ -14,13 +14,15 @@ use Rattle.eb_codec.specs.Stream.{Probed, Headed, Recorded}
 use Rattle.eb_codec.proofs.FormLemmas.{length-Fills, length-fixed, length-padding}
 use Rattle.eb_codec.proofs.RecordLemmas.{length-record_form}
 use Rattle.eb_codec.proofs.Zeroed.{length-zeroed}
+use Rattle.wb_signals.specs.Cycles.{MasterCycles}
 use Rattle.wb_signals.specs.declared.answer.Answer.{Answer}
 use Rattle.eb_session.specs.declared.session.Fed.{Fed}
 use Rattle.eb_session.specs.declared.session.End.{End}
 use Rattle.eb_session.specs.Operations.{upto}
-use Rattle.eb_session.specs.Replies.{Slave, read_word, answering, record_reply}
+use Rattle.eb_session.specs.declared.slave.Slave.{Slave}
+use Rattle.eb_session.specs.Replies.{read_word, answering, record_reply}
 use Rattle.eb_session.specs.Configuration.{register}
-use Rattle.eb_session.specs.Keeping.{Kept, MasterCycles, FedItem, Answers, Feeds, Stays}
+use Rattle.eb_session.specs.Keeping.{SessionState, FedItem, Answers, FeedsSession, Stays}
 use Rattle.eb_session.specs.Course.{IsShort}
 use Rattle.eb_session.proofs.Fitting.{length-upto}
 
@@ -79,23 +81,22 @@ is_short s sets (Some h) (Probed p) octets answers errors sp = elim sp.form [ ]
 is_short s sets (Some h) (Headed g) octets answers errors sp = elim sp.form [ ]
 is_short s sets (Some h) (Recorded r) octets answers errors sp = record_short s h r octets answers (register errors answers) sp.form.0 sp.form.1
 
-by_item : (m : ℕ) (old new : Kept) (octets : List ℕ) (before after : MasterCycles) (is_item : Bool) → FedItem m old new octets before after is_item → length new.reply ≤ length octets
-by_item m old new octets before after true (x, answers, ran) =
-    subst (λ (l : List ℕ). length l ≤ length octets) (sym ran.reply) (is_short old.slave old.progress.sets old.progress.header x octets answers old.errors ran.spelled)
-by_item m old new octets before after false w = let e = ap (λ (k : Kept). length k.reply) w.kept in omega (arith, e)
+by_item : (m : ℕ) (old new : SessionState) (piece : List ℕ) (before after : MasterCycles) (taken : ℕ) (is : Bool) → FedItem m old piece new before after taken is → length new.reply ≤ length old.progress.pending + taken
+by_item m old new piece before after taken true (le, x, answers, ran) =
+    let octets : List ℕ = old.progress.pending ++ take taken piece in
+    let short : length new.reply ≤ length octets =
+    subst (λ (l : List ℕ). length l ≤ length octets) (sym ran.reply) (is_short old.slave old.progress.sets old.progress.header x octets answers old.errors ran.spelled) in
+    omega (arith, short, le, length-append old.progress.pending (take taken piece), length-take taken piece)
+by_item m old new piece before after taken false w = let e = ap (λ (k : SessionState). length k.reply) w.1.kept in omega (arith, e)
 
 abbrev answer_ok : Fed → Result Fed End
 answer_ok fed = Ok fed
 
-fed_by : (m : ℕ) (old new : Kept) (piece : List ℕ) (before after : MasterCycles) (fed : Fed) (q : Option End) → MatchOption q (Answers m old piece new before after (Ok fed)) (λ e. (answer_ok fed ≡ Err e) × Stays old new before after)
+fed_by : (m : ℕ) (old new : SessionState) (piece : List ℕ) (before after : MasterCycles) (fed : Fed) (q : Option End) → MatchOption q (Answers m old piece new before after (Ok fed)) (λ e. (answer_ok fed ≡ Err e) × Stays old new before after)
     → length new.reply ≤ length old.progress.pending + fed.taken
-fed_by m old new piece before after fed None a =
-    let octets : List ℕ = old.progress.pending ++ take fed.taken piece in
-    let short = by_item m old new octets before after fed.item a.1 in
-    let le = a.0 in
-    omega (arith, short, le, length-append old.progress.pending (take fed.taken piece), length-take fed.taken piece)
+fed_by m old new piece before after fed None a = by_item m old new piece before after fed.taken fed.item a
 fed_by m old new piece before after fed (Some e) a = let f = a.0 in absurd (cc f)
 
 -- the reply to what a call took
-pub fed_short : (m : ℕ) (old new : Kept) (piece : List ℕ) (before after : MasterCycles) (fed : Fed) → Feeds m old piece new before after (Ok fed) → length new.reply ≤ length old.progress.pending + fed.taken
+pub fed_short : (m : ℕ) (old new : SessionState) (piece : List ℕ) (before after : MasterCycles) (fed : Fed) → FeedsSession m old piece new before after (Ok fed) → length new.reply ≤ length old.progress.pending + fed.taken
 fed_short m old new piece before after fed f = fed_by m old new piece before after fed old.ending f

@@ -2,7 +2,6 @@ pub mod Operations
 pub mod Cycles
 pub mod Configuration
 pub mod Replies
-pub mod Shown
 pub mod Keeping
 pub mod Course
 pub mod Inside

@@ -6,6 +6,7 @@ use Rattle.eb_codec.specs.declared.item.Header.{Header}
 use Rattle.eb_codec.specs.declared.item.Record.{Record}
 use Rattle.eb_codec.specs.Rules.{has}
 use Rattle.wb_signals.specs.Request.{Request, placed}
+use Rattle.wb_signals.specs.declared.answer.Answer.{Answer}
 
 -- What a function gives from 0 up to n.
 abbrev pub upto : {A : Type 0} → ℕ → (ℕ → A) → List A
@@ -38,3 +39,8 @@ record_ops bus h r = upto (bus_writes r) (write_at bus h r) ++ upto (bus_reads r
 -- The cycle ends after this record (CYC, 0x08).
 abbrev pub ends_cycle : Record → Bool
 ends_cycle r = has r.head.flags 0x08
+
+-- The answers to these operations, of those that a master tells: none where it was not asked.
+abbrev pub answered_to : List Request → List Answer → List Answer
+answered_to [] answers = []
+answered_to (r ∷ rs) answers = answers

@@ -15,19 +15,12 @@ use Rattle.eb_codec.specs.Form.{zeroed, record_form}
 use Rattle.eb_codec.specs.Stream.{StreamItem, Probed, Headed, Recorded, header_after}
 use Rattle.wb_signals.specs.declared.answer.Answer.{Answer}
 use Rattle.wb_signals.specs.declared.answer.Answer.TheVariants.{Ack, Err, Rty}
+use Rattle.eb_session.specs.declared.slave.Slave.{Slave}
 use Rattle.eb_session.specs.Operations.{upto, bus_writes}
 use Rattle.eb_session.specs.Cycles.{item_ops}
 use Rattle.eb_session.specs.Configuration.{register, config_word}
 
--- A slave: the width of its bus, and the address of its root table.
-pub record Slave : Type 0 where
-  pub bus : Width
-  pub root : ℕ
-
-abbrev pub slave : Width → ℕ → Slave
-slave bus root = record { bus = bus; root = root }
-
--- The widths that it has: all widths of addresses, and each width of a port up to the bus.
+-- The widths that a slave on a bus of this width has: all widths of addresses, and each width of a port up to the bus.
 abbrev pub sets_of : Width → Widths
 sets_of bus = record { addresses = 15; ports = 2 * bit bus - 1 }
 

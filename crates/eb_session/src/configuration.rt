@@ -1,3 +1,4 @@
+//! The configuration space of a slave, and its error register.
 ghost use Rattle.std.specs.Prelude.{◌≡◌, ◌<◌, ◌≤◌, ◌+◌, ◌*◌, ◌%◌, ◌^◌, length, take};
 ghost use Rattle.eb_base.specs.Width.{octets};
 ghost use Rattle.eb_base.specs.Lanes.{port_address};
@@ -29,8 +30,8 @@ fn port_word(port: Width, adr: u64) -> u64
     }
 }
 
-// The number of the port's width at a place of the configuration space: the error register, the root table's address, and
-// zeros.
+// The number of the port's width at a place of the configuration space: the error register, the root table's
+// address, and zeros.
 fn octets_at(port: Width, root: u64, errors: u64, at: u64) -> u64
     requires aligned { at % octets port ≡ 0 }
     ensures value { result ≡ config_at port root errors at }

@@ -1,3 +1,4 @@
+//! The laws of whole runs.
 ghost use Rattle.eb_session.specs.Course.{Begins, FedGoes, RunsAll, FinishEnds, FedEnds, IsShort};
 
 /// What a session did since it was new is told by one list of items: its cycles, its replies, its register and its end.

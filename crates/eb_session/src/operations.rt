@@ -1,23 +1,21 @@
-ghost use Rattle.std.specs.Prelude.{◌≡◌, ◌≢◌, ◌<◌, ◌≤◌, ◌+◌, ◌*◌, ◌%◌, ◌^◌, ◌++◌, ◌∷◌, [], false, length, if◌then◌else◌, vec_len, vec_capacity, OnOk, OnErr};
+//! The operations of a record.
+ghost use Rattle.std.specs.Prelude.{◌≡◌, ◌≢◌, ◌<◌, ◌≤◌, ◌+◌, ◌*◌, ◌%◌, ◌^◌, ◌++◌, ◌∷◌, [], false, if◌then◌else◌, vec_len, vec_capacity};
 ghost use Rattle.eb_base.specs.Width.{octets};
 ghost use Rattle.eb_codec.specs.Rules.{has};
 ghost use Rattle.wb_signals.specs.Request.{placed};
-ghost use Rattle.wb_signals.specs.Cycles.{FitsBus, AllFitBus, paired, opened_after};
+ghost use Rattle.wb_signals.specs.Cycles.{FitsBus, AllFitBus};
 ghost use Rattle.eb_session.specs.Operations.{write_at, read_at, record_ops, upto};
-ghost use Rattle.eb_session.specs.Shown.{ShowsRecord, answered_to};
-ghost use Rattle.eb_codec.specs.Decoding.{record_in};
-ghost use Rattle.eb_session.specs.Keeping.{Asks, is_some, made_with};
 
-use crate::shown::{address, value, write_base};
-use eb_base::{NoMemory, Width, place};
-use eb_codec::{Decoder, Header, RecordHead};
-use std::alloc::Global;
-use wb_signals::{Master, Op};
+use eb_base::{Width, place};
+use eb_codec::{Header, RecordHead, RecordView};
+use wb_signals::Op;
 
 /// The writes are to configuration space.
 pub const WCA: u8 = 0x04;
 /// The reads are of configuration space.
 pub const RCA: u8 = 0x40;
+/// The cycle ends after the record.
+pub const CYC: u8 = 0x08;
 // Every write goes to the base address.
 const WFF: u8 = 0x02;
 
@@ -81,47 +79,28 @@ fn write_address(header: Header, flags: u8, base: u64, i: usize) -> u64
     }
 }
 
-fn write_op(
-    bus: Width,
-    header: Header,
-    decoder: &Decoder,
-    head: RecordHead,
-    base: u64,
-    i: usize,
-) -> Op
-    requires shows { ShowsRecord decoder.now header head }
-    requires narrow { octets header.port ≤ octets bus }
-    requires base { base ≡ (record_in decoder.now.shown).write_base }
-    requires inside { i < head.writes }
-    ensures value { result ≡ write_at bus header (record_in decoder.now.shown) i }
+// Write i. `base` is the base address of the writes.
+fn write_op(bus: Width, view: &RecordView<'_>, base: u64, i: usize) -> Op
+    requires narrow { octets view.now.header.port ≤ octets bus }
+    requires base { base ≡ view.now.item.write_base }
+    requires inside { i < view.now.item.head.writes }
+    ensures value { result ≡ write_at bus view.now.header view.now.item i }
     ensures fits { FitsBus bus result }
 {
+    let (header, head) = (view.header(), view.head());
     let adr = write_address(header, head.flags, base, i);
-    access(
-        header.port,
-        bus,
-        true,
-        adr,
-        value(decoder, header, head, i),
-        head.enable,
-    )
+    access(header.port, bus, true, adr, view.value(i), head.enable)
 }
 
-fn read_op(bus: Width, header: Header, decoder: &Decoder, head: RecordHead, i: usize) -> Op
-    requires shows { ShowsRecord decoder.now header head }
-    requires narrow { octets header.port ≤ octets bus }
-    requires inside { i < head.reads }
-    ensures value { result ≡ read_at bus header (record_in decoder.now.shown) i }
+// Read i.
+fn read_op(bus: Width, view: &RecordView<'_>, i: usize) -> Op
+    requires narrow { octets view.now.header.port ≤ octets bus }
+    requires inside { i < view.now.item.head.reads }
+    ensures value { result ≡ read_at bus view.now.header view.now.item i }
     ensures fits { FitsBus bus result }
 {
-    access(
-        header.port,
-        bus,
-        false,
-        address(decoder, header, head, i),
-        0,
-        head.enable,
-    )
+    let (header, head) = (view.header(), view.head());
+    access(header.port, bus, false, view.address(i), 0, head.enable)
 }
 
 /// How many of so many accesses go to the bus: none where the flag says configuration space.
@@ -137,107 +116,56 @@ pub fn on_bus(flags: u8, config: u8, count: u8) -> usize
 }
 
 // Adds the operations of the first writes.
-fn put_writes(
-    bus: Width,
-    header: Header,
-    decoder: &Decoder,
-    head: RecordHead,
-    count: usize,
-    ops: &mut Vec<Op>,
-)
-    requires shows { ShowsRecord decoder.now header head }
-    requires narrow { octets header.port ≤ octets bus }
-    requires count { count ≤ head.writes }
+fn put_writes(bus: Width, view: &RecordView<'_>, count: usize, ops: &mut Vec<Op>)
+    requires narrow { octets view.now.header.port ≤ octets bus }
+    requires count { count ≤ view.now.item.head.writes }
     requires room { vec_len ops.old + count ≤ vec_capacity ops.old }
     requires fit { AllFitBus bus ops.old.items }
-    ensures items { ops.new.items ≡ ops.old.items ++ upto count (write_at bus header (record_in decoder.now.shown)) }
+    ensures items { ops.new.items ≡ ops.old.items ++ upto count (write_at bus view.now.header view.now.item) }
     ensures len { vec_len ops.new ≡ vec_len ops.old + count }
     ensures capacity { vec_capacity ops.old ≤ vec_capacity ops.new }
     ensures fit { AllFitBus bus ops.new.items }
 {
-    let base = write_base(decoder, header, head);
+    let base = view.write_base();
     for i in 0..count {
-        push(ops, write_op(bus, header, decoder, head, base, i));
+        push(ops, write_op(bus, view, base, i));
     }
 }
 
 // Adds the operations of the first reads.
-fn put_reads(
-    bus: Width,
-    header: Header,
-    decoder: &Decoder,
-    head: RecordHead,
-    count: usize,
-    ops: &mut Vec<Op>,
-)
-    requires shows { ShowsRecord decoder.now header head }
-    requires narrow { octets header.port ≤ octets bus }
-    requires count { count ≤ head.reads }
+fn put_reads(bus: Width, view: &RecordView<'_>, count: usize, ops: &mut Vec<Op>)
+    requires narrow { octets view.now.header.port ≤ octets bus }
+    requires count { count ≤ view.now.item.head.reads }
     requires room { vec_len ops.old + count ≤ vec_capacity ops.old }
     requires fit { AllFitBus bus ops.old.items }
-    ensures items { ops.new.items ≡ ops.old.items ++ upto count (read_at bus header (record_in decoder.now.shown)) }
+    ensures items { ops.new.items ≡ ops.old.items ++ upto count (read_at bus view.now.header view.now.item) }
     ensures len { vec_len ops.new ≡ vec_len ops.old + count }
     ensures capacity { vec_capacity ops.old ≤ vec_capacity ops.new }
     ensures fit { AllFitBus bus ops.new.items }
 {
     for i in 0..count {
-        push(ops, read_op(bus, header, decoder, head, i));
+        push(ops, read_op(bus, view, i));
     }
 }
 
-/// Puts the operations of the record that was just given in place of those that there are.
-pub fn put_ops(bus: Width, header: Header, decoder: &Decoder, head: RecordHead, ops: &mut Vec<Op>)
-    requires shows { ShowsRecord decoder.now header head }
-    requires narrow { octets header.port ≤ octets bus }
+/// Whether a cycle ends after a record with this head.
+pub fn is_last(head: RecordHead) -> bool
+    ensures value { result ≡ has head.flags 0x08 }
+{
+    head.flags & CYC != 0
+}
+
+/// Puts the operations of a record in place of those that there are.
+pub fn put_ops(bus: Width, view: &RecordView<'_>, ops: &mut Vec<Op>)
+    requires narrow { octets view.now.header.port ≤ octets bus }
     requires room { 510 ≤ vec_capacity ops.old }
-    ensures items { ops.new.items ≡ record_ops bus header (record_in decoder.now.shown) }
+    ensures items { ops.new.items ≡ record_ops bus view.now.header view.now.item }
     ensures most { vec_len ops.new ≤ 510 }
     ensures fit { AllFitBus bus ops.new.items }
     ensures room { 510 ≤ vec_capacity ops.new }
 {
     ops.clear();
-    put_writes(
-        bus,
-        header,
-        decoder,
-        head,
-        on_bus(head.flags, WCA, head.writes),
-        ops,
-    );
-    put_reads(
-        bus,
-        header,
-        decoder,
-        head,
-        on_bus(head.flags, RCA, head.reads),
-        ops,
-    );
-}
-
-/// Runs the operations of a record, which may end the cycle that is open. Where there is nothing to ask of the master, it
-/// isn't asked.
-pub fn run_ops<M: Master>(
-    alloc: Global,
-    master: &mut M,
-    ops: &[Op],
-    last: bool,
-    opened: bool,
-) -> Result<(), NoMemory>
-    requires most { length ops.now ≤ 510 }
-    requires fit { AllFitBus (M.bus master.old) ops.now }
-    requires opened { opened ≡ is_some (M.opened master.old) }
-    ensures answers { OnOk result (length (answered_to ops.now (M.answered master.new)) ≡ length ops.now) }
-    ensures made { OnOk result (M.made master.new ≡ made_with (M.number master.old) (M.made master.old) (M.opened master.old ++ paired ops.now (answered_to ops.now (M.answered master.new))) last) }
-    ensures opened { OnOk result (M.opened master.new ≡ opened_after (M.opened master.old ++ paired ops.now (answered_to ops.now (M.answered master.new))) last) }
-    ensures asked { OnErr result (Asks (M.opened master.old) ops.now last) }
-    ensures made_kept { OnErr result (M.made master.new ≡ M.made master.old) }
-    ensures opened_kept { OnErr result (M.opened master.new ≡ M.opened master.old) }
-    ensures bus { M.bus master.new ≡ M.bus master.old }
-    ensures number { M.number master.new ≡ M.number master.old }
-    ensures kept { M.kept master.new ≡ M.kept master.old }
-{
-    if ops.is_empty() && !(last && opened) {
-        return Ok(());
-    }
-    master.record(alloc, ops, last)
+    let head = view.head();
+    put_writes(bus, view, on_bus(head.flags, WCA, head.writes), ops);
+    put_reads(bus, view, on_bus(head.flags, RCA, head.reads), ops);
 }

@@ -1,24 +1,20 @@
+//! The replies to items.
 ghost use Rattle.std.specs.Prelude.{◌≡◌, ◌≢◌, ◌<◌, ◌≤◌, ◌+◌, ◌*◌, ◌^◌, ◌++◌, length, vec_len, vec_capacity};
 ghost use Rattle.std.specs.List.{flat_map};
 ghost use Rattle.eb_base.specs.Width.{octets};
 ghost use Rattle.eb_codec.specs.Form.{FitsProbe, zeroed, field};
 ghost use Rattle.eb_codec.specs.Sizes.{field_octets};
 ghost use Rattle.eb_session.specs.Operations.{bus_writes, bus_reads, upto};
-ghost use Rattle.eb_session.specs.Shown.{ShowsRecord};
-ghost use Rattle.eb_codec.specs.Decoding.{record_in};
-ghost use Rattle.eb_session.specs.Replies.{slave, answer_word, read_word, record_reply, probe_reply, header_reply, reply_flags};
+ghost use Rattle.eb_session.specs.Replies.{answer_word, read_word, record_reply, probe_reply, header_reply, reply_flags};
 
 use crate::configuration::config;
-use crate::operations::{RCA, WCA};
-use crate::shown::{address, return_base};
+use crate::operations::{CYC, RCA, WCA, on_bus};
+use crate::slave::Slave;
 use eb_base::{Width, word};
 use eb_codec::encoding::{put, put_field, put_zeros};
 use eb_codec::sizes::{trailing, unit_len};
-use eb_codec::{Decoder, Header, Probe, RecordHead};
+use eb_codec::{Header, Probe, RecordView};
 use wb_signals::{Answer, Master};
-
-/// The cycle ends after the record.
-pub const CYC: u8 = 0x08;
 
 const BCA: u8 = 0x80;
 
@@ -50,114 +46,84 @@ fn answered(port: Width, bus: Width, adr: u64, sel: u8, answer: Answer) -> u64
     }
 }
 
-// A word that the record read. `first` is the number of operations before its reads.
-fn read<M: Master>(
-    master: &M,
-    bus: Width,
-    root: u64,
-    header: Header,
-    decoder: &Decoder,
-    head: RecordHead,
-    errors: u64,
-    first: usize,
-    i: usize,
-) -> u64
-    requires shows { ShowsRecord decoder.now header head }
-    requires narrow { octets header.port ≤ octets bus }
-    requires inside { i < head.reads }
-    requires first { first ≡ bus_writes (record_in decoder.now.shown) }
-    requires answers { bus_writes (record_in decoder.now.shown) + bus_reads (record_in decoder.now.shown) ≤ length (M.answered master.now) }
-    ensures value { result ≡ read_word (slave bus root) header (record_in decoder.now.shown) (M.answered master.now) errors i }
-    ensures most { result < 256 ^ octets header.port }
+// Word i of those that the record read, `errors` being the register after it.
+fn read<M: Master>(slave: Slave, view: &RecordView<'_>, master: &M, errors: u64, i: usize) -> u64
+    requires narrow { octets view.now.header.port ≤ octets slave.bus }
+    requires inside { i < view.now.item.head.reads }
+    requires answers { bus_writes view.now.item + bus_reads view.now.item ≤ length (M.answered master.now) }
+    ensures value { result ≡ read_word slave view.now.header view.now.item (M.answered master.now) errors i }
+    ensures most { result < 256 ^ octets view.now.header.port }
 {
-    let adr = address(decoder, header, head, i);
+    let (port, head, adr) = (view.header().port, view.head(), view.address(i));
     if head.flags & RCA != 0 {
-        config(header.port, root, errors, adr, head.enable)
+        config(port, slave.root, errors, adr, head.enable)
     } else {
-        answered(header.port, bus, adr, head.enable, master.answer(first + i))
+        let first = on_bus(head.flags, WCA, head.writes);
+        answered(port, slave.bus, adr, head.enable, master.answer(first + i))
     }
 }
 
 // Appends the words that the record read.
 #[tactic(auto, using(crate::proofs::Fitting::one_more_word))]
 fn put_words<M: Master>(
+    slave: Slave,
+    view: &RecordView<'_>,
     master: &M,
-    bus: Width,
-    root: u64,
-    header: Header,
-    decoder: &Decoder,
-    head: RecordHead,
     errors: u64,
-    first: usize,
     reply: &mut Vec<u8>,
 )
-    requires shows { ShowsRecord decoder.now header head }
-    requires narrow { octets header.port ≤ octets bus }
-    requires first { first ≡ bus_writes (record_in decoder.now.shown) }
-    requires answers { bus_writes (record_in decoder.now.shown) + bus_reads (record_in decoder.now.shown) ≤ length (M.answered master.now) }
-    requires room { vec_len reply.old + field_octets header * head.reads ≤ vec_capacity reply.old }
-    ensures items { reply.new.items ≡ reply.old.items ++ zeroed (flat_map (field header header.port) (upto head.reads (read_word (slave bus root) header (record_in decoder.now.shown) (M.answered master.now) errors))) }
-    ensures len { vec_len reply.new ≡ vec_len reply.old + field_octets header * head.reads }
+    requires narrow { octets view.now.header.port ≤ octets slave.bus }
+    requires answers { bus_writes view.now.item + bus_reads view.now.item ≤ length (M.answered master.now) }
+    requires room { vec_len reply.old + field_octets view.now.header * view.now.item.head.reads ≤ vec_capacity reply.old }
+    ensures items { reply.new.items ≡ reply.old.items ++ zeroed (flat_map (field view.now.header view.now.header.port)
+        (upto view.now.item.head.reads (read_word slave view.now.header view.now.item (M.answered master.now) errors))) }
+    ensures len { vec_len reply.new ≡ vec_len reply.old + field_octets view.now.header * view.now.item.head.reads }
     ensures capacity { vec_capacity reply.old ≤ vec_capacity reply.new }
 {
-    for i in 0..usize::from(head.reads) {
-        put_field(
-            reply,
-            header,
-            header.port,
-            read(master, bus, root, header, decoder, head, errors, first, i),
-        );
+    let header = view.header();
+    for i in 0..usize::from(view.head().reads) {
+        let word = read(slave, view, master, errors, i);
+        put_field(reply, header, header.port, word);
     }
 }
 
-/// Appends the reply to the record that was just given and ran, `errors` being the register after it.
+/// Appends the reply to a record that ran on the master, `errors` being the register after it.
 pub fn put_reply<M: Master>(
+    slave: Slave,
+    view: &RecordView<'_>,
     master: &M,
-    bus: Width,
-    root: u64,
-    header: Header,
-    decoder: &Decoder,
-    head: RecordHead,
     errors: u64,
-    first: usize,
     reply: &mut Vec<u8>,
 )
-    requires shows { ShowsRecord decoder.now header head }
-    requires narrow { octets header.port ≤ octets bus }
-    requires first { first ≡ bus_writes (record_in decoder.now.shown) }
-    requires answers { bus_writes (record_in decoder.now.shown) + bus_reads (record_in decoder.now.shown) ≤ length (M.answered master.now) }
+    requires narrow { octets view.now.header.port ≤ octets slave.bus }
+    requires answers { bus_writes view.now.item + bus_reads view.now.item ≤ length (M.answered master.now) }
     requires room { vec_len reply.old + 2056 ≤ vec_capacity reply.old }
-    ensures items { reply.new.items ≡ reply.old.items ++ record_reply (slave bus root) header (record_in decoder.now.shown) (M.answered master.now) errors }
+    ensures items { reply.new.items
+        ≡ reply.old.items ++ record_reply slave view.now.header view.now.item (M.answered master.now) errors }
     ensures len { vec_len reply.new ≤ vec_len reply.old + 2056 }
     ensures room { vec_capacity reply.old ≤ vec_capacity reply.new }
 {
+    let (header, head) = (view.header(), view.head());
     if head.reads == 0 {
         return;
     }
     put(reply, &[flags_of(head.flags), head.enable, head.reads, 0]);
     put_zeros(reply, unit_len(header) - 4);
-    put_field(
-        reply,
-        header,
-        header.address,
-        return_base(decoder, header, head),
-    );
-    put_words(
-        master, bus, root, header, decoder, head, errors, first, reply,
-    );
+    put_field(reply, header, header.address, view.return_base());
+    put_words(slave, view, master, errors, reply);
     put_zeros(reply, trailing(header, head.reads, 0));
 }
 
 /// Appends the reply to a probe.
 #[tactic(auto, unfolding(eb_base::specs::Field::octets_of))]
-pub fn put_probe(bus: Width, probe: Probe, reply: &mut Vec<u8>)
+pub fn put_probe(slave: Slave, probe: Probe, reply: &mut Vec<u8>)
     requires fits { FitsProbe probe }
     requires room { vec_len reply.old + 8 ≤ vec_capacity reply.old }
-    ensures items { reply.new.items ≡ reply.old.items ++ probe_reply (slave bus 0) probe }
+    ensures items { reply.new.items ≡ reply.old.items ++ probe_reply slave probe }
     ensures len { vec_len reply.new ≡ vec_len reply.old + 8 }
     ensures room { vec_capacity reply.old ≤ vec_capacity reply.new }
 {
-    put(reply, &[0x4e, 0x6f, 0x16, 0xf0 + (2 * bus.bit() - 1)]);
+    put(reply, &[0x4e, 0x6f, 0x16, 0xf0 + (2 * slave.bus.bit() - 1)]);
     put(reply, &probe.id.to_be_bytes());
 }
 

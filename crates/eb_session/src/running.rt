@@ -1,99 +1,54 @@
-ghost use Rattle.std.specs.Prelude.{◌≡◌, ◌≤◌, ◌+◌, ◌++◌, ◌&&◌, ◌||◌, ◌==◌, not, [], length, vec_capacity, OnOk, OnErr, IfOk};
-ghost use Rattle.eb_base.specs.Width.{octets};
-ghost use Rattle.wb_signals.specs.Cycles.{paired};
-ghost use Rattle.eb_session.specs.Operations.{record_ops, ends_cycle};
-ghost use Rattle.eb_session.specs.Configuration.{register};
-ghost use Rattle.eb_session.specs.Replies.{slave, record_reply};
-ghost use Rattle.eb_session.specs.Shown.{ShowsRecord, answered_to};
-ghost use Rattle.eb_codec.specs.Decoding.{record_in};
-ghost use Rattle.eb_session.specs.Keeping.{Added, Asks, WasCut, cycles_of, is_some};
+//! What a session asks of its master.
+ghost use Rattle.std.specs.Prelude.{◌≡◌, ◌≢◌, ◌≤◌, ◌↔◌, [], IsTrue, true, length, OnOk, OnErr};
+ghost use Rattle.wb_signals.specs.Cycles.{AllFitBus, Asks, paired, pairs_added, cycle_ended};
+ghost use Rattle.eb_session.specs.Operations.{answered_to};
 
-use crate::configuration::shifted;
-use crate::operations::{WCA, on_bus, put_ops, run_ops};
-use crate::replying::{CYC, put_reply};
-use eb_base::{NoMemory, Width};
-use eb_codec::{Decoder, Header, RecordHead};
+use eb_base::NoMemory;
 use std::alloc::Global;
 use wb_signals::{Master, Op};
 
-/// What a record leaves: the error register, and whether a cycle is open.
-#[derive(Clone, Copy)]
-pub struct State {
-    pub errors: u64,
-    pub opened: bool,
+// Whether a master is asked: there are operations, or the open cycle ends.
+fn asks<M: Master>(master: &M, ops: &[Op], last: bool) -> bool
+    ensures value { IsTrue result ↔ Asks (M.cycles master.now).opened ops.now last }
+{
+    if !ops.is_empty() {
+        return true;
+    }
+    if !last {
+        return false;
+    }
+    master.is_open()
+}
+
+/// Runs the operations of a record, which may end the cycle that is open. Where there is nothing to ask of the master, it
+/// isn't asked.
+pub fn run_ops<M: Master>(
+    alloc: Global,
+    master: &mut M,
+    ops: &[Op],
+    last: bool,
+) -> Result<(), NoMemory>
+    requires most { length ops.now ≤ 510 }
+    requires fit { AllFitBus (M.identity master.old).bus ops.now }
+    ensures answers { OnOk result (length (answered_to ops.now (M.answered master.new)) ≡ length ops.now) }
+    ensures ran { OnOk result (M.cycles master.new ≡ pairs_added (M.identity master.old).number (M.cycles master.old)
+        (paired ops.now (answered_to ops.now (M.answered master.new))) last) }
+    ensures asked { OnErr result (Asks (M.cycles master.old).opened ops.now last) }
+    ensures unrun { OnErr result (M.cycles master.new ≡ M.cycles master.old) }
+    ensures identity { M.identity master.new ≡ M.identity master.old }
+{
+    if !asks(master, ops, last) {
+        return Ok(());
+    }
+    master.record(alloc, ops, last)
 }
 
 /// Cuts the open cycle, where there is one.
-pub fn cut_open<M: Master>(master: &mut M, opened: bool)
-    requires opened { opened ≡ is_some (M.opened master.old) }
-    ensures cut { WasCut (M.number master.old) (cycles_of (M.made master.old) (M.opened master.old)) (cycles_of (M.made master.new) (M.opened master.new)) }
-    ensures bus { M.bus master.new ≡ M.bus master.old }
-    ensures number { M.number master.new ≡ M.number master.old }
-    ensures kept { M.kept master.new ≡ M.kept master.old }
+pub fn cut_open<M: Master>(master: &mut M)
+    ensures cut { M.cycles master.new ≡ cycle_ended (M.identity master.old).number true (M.cycles master.old) }
+    ensures identity { M.identity master.new ≡ M.identity master.old }
 {
-    if opened {
+    if master.is_open() {
         master.cut();
     }
-}
-
-// Whether a cycle is open after a record of so many operations.
-fn stays_open(last: bool, opened: bool, count: usize) -> bool
-    ensures value { result ≡ (not last && (opened || not (count == 0))) }
-{
-    !last && (opened || count != 0)
-}
-
-/// Runs the record that was just given, and appends its reply.
-///
-/// After `NoMemory` the master's cycles are as they were, and nothing was appended.
-pub fn run_record<M: Master>(
-    alloc: Global,
-    master: &mut M,
-    bus: Width,
-    root: u64,
-    header: Header,
-    decoder: &Decoder,
-    head: RecordHead,
-    ops: &mut Vec<Op>,
-    errors: u64,
-    opened: bool,
-    reply: &mut Vec<u8>,
-) -> Result<State, NoMemory>
-    requires shows { ShowsRecord decoder.now header head }
-    requires narrow { octets header.port ≤ octets bus }
-    requires width { M.bus master.old ≡ bus }
-    requires opened { opened ≡ is_some (M.opened master.old) }
-    requires ops { 510 ≤ vec_capacity ops.old }
-    requires reply { 2056 ≤ vec_capacity reply.old }
-    requires empty { reply.old.items ≡ [] }
-    ensures answered { OnOk result (length (answered_to (record_ops bus header (record_in decoder.now.shown)) (M.answered master.new)) ≡ length (record_ops bus header (record_in decoder.now.shown))) }
-    ensures added { OnOk result (Added (M.number master.old) (cycles_of (M.made master.old) (M.opened master.old)) (cycles_of (M.made master.new) (M.opened master.new))
-        (paired (record_ops bus header (record_in decoder.now.shown)) (answered_to (record_ops bus header (record_in decoder.now.shown)) (M.answered master.new))) (ends_cycle (record_in decoder.now.shown))) }
-    ensures errors { IfOk result (λ s. s.errors ≡ register errors (answered_to (record_ops bus header (record_in decoder.now.shown)) (M.answered master.new))) }
-    ensures opened { IfOk result (λ s. s.opened ≡ is_some (M.opened master.new)) }
-    ensures reply { OnOk result (reply.new.items ≡ record_reply (slave bus root) header (record_in decoder.now.shown) (answered_to (record_ops bus header (record_in decoder.now.shown)) (M.answered master.new)) (register errors (answered_to (record_ops bus header (record_in decoder.now.shown)) (M.answered master.new)))) }
-    ensures asked { OnErr result (Asks (M.opened master.old) (record_ops bus header (record_in decoder.now.shown)) (ends_cycle (record_in decoder.now.shown))) }
-    ensures made_kept { OnErr result (M.made master.new ≡ M.made master.old) }
-    ensures opened_kept { OnErr result (M.opened master.new ≡ M.opened master.old) }
-    ensures reply_kept { OnErr result (reply.new.items ≡ []) }
-    ensures bus { M.bus master.new ≡ M.bus master.old }
-    ensures number { M.number master.new ≡ M.number master.old }
-    ensures kept { M.kept master.new ≡ M.kept master.old }
-    ensures ops_room { 510 ≤ vec_capacity ops.new }
-    ensures reply_room { 2056 ≤ vec_capacity reply.new }
-    ensures most { length reply.new.items ≤ 2056 }
-{
-    let last = head.flags & CYC != 0;
-    put_ops(bus, header, decoder, head, ops);
-    run_ops(alloc, master, ops, last, opened)?;
-    let count = ops.len();
-    let errors = shifted(master, count, errors);
-    let first = on_bus(head.flags, WCA, head.writes);
-    put_reply(
-        master, bus, root, header, decoder, head, errors, first, reply,
-    );
-    Ok(State {
-        errors,
-        opened: stays_open(last, opened, count),
-    })
 }
