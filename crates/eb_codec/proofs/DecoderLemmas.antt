@@ -149,7 +149,7 @@ holds_whole sets None room' n have len bytes none most size-is =
     ]
 holds_whole sets (Some h) room' n have len bytes none most size-is =
     let whole-is : length (take n room') ≡ size (Some h) (take n room') = omega (arith, length-take n room') in
-    record { widths = have; is_room = len; fits = most; bytes = bytes; item = (whole-is, is_record sets h (take n room') none whole-is (IsBytes-take n room' bytes)) }
+    record { widths = have; is_room = len; fits = most; bytes = bytes; item = is_record sets h (take n room') none whole-is (IsBytes-take n room' bytes) }
 
 pub holds_zeros : (sets : Widths) (room : List ℕ) (n : ℕ) → n ≡ 4104 → HaveWidths sets → room ≡ replicate n 0 → Holds sets None room 0 false
 holds_zeros sets room n n-is have e =

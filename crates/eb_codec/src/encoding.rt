@@ -1,3 +1,5 @@
+//! The encoders of items, and the fields that they write.
+
 ghost use Rattle.std.specs.Prelude.{◌≡◌, ◌<◌, ◌≤◌, ◌+◌, ◌-◌, ◌*◌, ◌^◌, ◌++◌, length, flat_map, replicate, All, OnOk, OnErr, vec_len, vec_capacity};
 ghost use Rattle.eb_base.specs.Width.{octets as width_octets};
 ghost use Rattle.eb_base.specs.Field.{octets_of};
@@ -100,7 +102,8 @@ fn put_part(out: &mut Vec<u8>, header: Header, width: Width, base: u64, numbers:
 
 // Appends a record, for which there is room.
 fn put_record(out: &mut Vec<u8>, header: Header, item: &Record)
-    requires room { vec_len out.old + record_octets header item.now.head.writes item.now.head.reads ≤ vec_capacity out.old }
+    requires room { vec_len out.old + record_octets header item.now.head.writes item.now.head.reads
+        ≤ vec_capacity out.old }
     requires fits { FitsRecord header item.now }
     ensures { out.new.items ≡ out.old.items ++ zeroed (record_form header item.now) }
 {
@@ -121,13 +124,13 @@ fn put_record(out: &mut Vec<u8>, header: Header, item: &Record)
 
 /// Appends the octets of a record behind this header, with zero padding.
 ///
-/// They are its head of 4 octets, then, in fields as wide as the widest of an address, a value and 2 octets, the base address
-/// of the writes and the values, and the base address of the reply and the addresses to read, each part only where it has
-/// numbers. Numbers stand at the end of their fields, the highest octet first. The whole is padded to a multiple of 4 octets,
-/// of 8 where a field has 8, and has 4,104 at most.
+/// They are its head of 4 octets, then, in fields as wide as the widest of an address, a value and 2 octets, the base
+/// address of the writes and the values, and the base address of the reply and the addresses to read, each part only
+/// where it has numbers. Numbers stand at the end of their fields, the highest octet first. The whole is padded to a
+/// multiple of 4 octets, of 8 where a field has 8, and has 4,104 at most.
 ///
-/// Its condition is that the record fits the header's widths and breaks no rule. Room for all octets is taken first: after
-/// `NoMemory` nothing has been appended.
+/// Its condition is that the record fits the header's widths and breaks no rule. Room for all octets is taken first:
+/// after `NoMemory` nothing has been appended.
 pub fn encode_record(header: &Header, item: &Record, out: &mut Vec<u8>) -> Result<(), NoMemory>
     requires fits { FitsRecord header.now item.now }
     requires legal { KeepsRules header.now item.now.head }

@@ -1,8 +1,10 @@
+//! The items of a stream, and the rules that they keep.
+
 use crate::words::Words;
 use eb_base::{Width, Widths};
 
-/// The header of an Etherbone 1.0 stream: whether replies are unwanted (the flag NR), the width of each address and that
-/// of the port, which is the width of each value.
+/// The header of an Etherbone 1.0 stream: whether replies are unwanted (the flag NR), the width of each address and
+/// that of the port, which is the width of each value.
 #[derive(Clone, Copy, Debug, PartialEq, Eq)]
 pub struct Header {
     pub no_reply: bool,
@@ -10,8 +12,8 @@ pub struct Header {
     pub port: Width,
 }
 
-/// A probe (the flag PF): it asks a slave for its widths. Each set is four bits: 1, 2, 4 and 8 for 8, 16, 32 and 64 bits.
-/// The answer carries the same id. The flag NR changes nothing.
+/// A probe (the flag PF): it asks a slave for its widths. Each set is four bits: 1, 2, 4 and 8 for 8, 16, 32 and 64
+/// bits. The answer carries the same id. The flag NR changes nothing.
 #[derive(Clone, Copy, Debug, PartialEq, Eq)]
 pub struct Probe {
     pub no_reply: bool,
@@ -19,8 +21,8 @@ pub struct Probe {
     pub id: u32,
 }
 
-/// The first four octets of a record: its flags, the byte enable of each access (bit i selects octet i of a word, the lowest
-/// being the least significant), and how many values it writes and addresses it reads.
+/// The first four octets of a record: its flags, the byte enable of each access (bit i selects octet i of a word, the
+/// lowest being the least significant), and how many values it writes and addresses it reads.
 ///
 /// The flags are those of `flags`.
 #[derive(Clone, Copy, Debug, PartialEq, Eq)]
@@ -31,8 +33,8 @@ pub struct RecordHead {
     pub reads: u8,
 }
 
-/// A record: values to write from a base address on, and addresses to read, with the base address of the reply. Where there
-/// are no values or no addresses, that base is 0.
+/// A record: values to write from a base address on, and addresses to read, with the base address of the reply. Where
+/// there are no values or no addresses, that base is 0.
 #[derive(Drop, Debug)]
 pub struct Record {
     pub head: RecordHead,
@@ -42,8 +44,8 @@ pub struct Record {
     pub addresses: Words,
 }
 
-/// The rules that an octet of a stream may break, in the order of their numbers. Where one octet breaks several, the first
-/// of them is told. Places count from the item's first octet as 0.
+/// The rules that an octet of a stream may break, in the order of their numbers. Where one octet breaks several, the
+/// first of them is told. Places count from the item's first octet as 0.
 #[derive(Clone, Copy, Debug, PartialEq, Eq)]
 pub enum Why {
     /// Octet 0 or 1 of a header or probe isn't the magic.
@@ -54,8 +56,8 @@ pub enum Why {
     Response,
     /// Octet 2 has the reserved bit.
     Reserved,
-    /// Octet 3 of a probe has a set with no width that the slave has; that of a header a half that isn't exactly one width
-    /// that the slave has.
+    /// Octet 3 of a probe has a set with no width that the slave has; that of a header a half that isn't exactly one
+    /// width that the slave has.
     Width,
     /// Octet 0 of a record has a reserved bit.
     Flag,

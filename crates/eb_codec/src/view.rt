@@ -1,14 +1,16 @@
-//! A whole record, read where it lies.
+//! A whole record as one value, whose numbers are read where they lie.
 
-ghost use Rattle.std.specs.Prelude.{◌≡◌, ◌<◌, ◌^◌, slice_index};
+ghost use Rattle.std.specs.Prelude.{◌≡◌, ◌<◌, ◌≤◌, ◌+◌, ◌^◌, length, slice_index, drop};
 ghost use Rattle.eb_base.specs.Width.{octets as width_octets};
 ghost use Rattle.eb_codec.specs.Form.{FitsRecord, KeepsRules};
-ghost use Rattle.eb_codec.specs.Reading.{record_of};
+ghost use Rattle.eb_codec.specs.Sizes.{field_octets, unit_octets};
+ghost use Rattle.eb_codec.specs.Reading.{record_of, base_in, list_in, part_octets};
 ghost use Rattle.eb_codec.specs.View.{IsRecord};
 
 use crate::item::{Header, RecordHead};
-use crate::reading::{base_at, number_at, read_head, second_part};
-use crate::sizes::unit_len;
+use crate::reading::read_head;
+use crate::sizes::{field_len, part_len, unit_len};
+use eb_base::{Width, get};
 use std::marker::Model;
 
 /// A whole record in its octets, with the header that it stands behind. Contracts see the two.
@@ -112,4 +114,48 @@ impl<'a> RecordView<'a> {
             i,
         )
     }
+}
+
+// Where a number begins in its field.
+fn offset(header: Header, width: Width) -> usize
+    requires { width_octets width ≤ field_octets header }
+    ensures { result + width_octets width ≡ field_octets header }
+{
+    field_len(header) - width.octets() as usize
+}
+
+// The base address of the part that begins at an octet.
+fn base_at(header: Header, octets: &[u8], part: usize, count: u8) -> u64
+    requires within { part + part_octets header count ≤ length octets.now }
+    ensures { result ≡ base_in header count (drop part octets.now) }
+{
+    if count == 0 {
+        0
+    } else {
+        get(
+            header.address,
+            octets,
+            part + offset(header, header.address),
+        )
+    }
+}
+
+// A number of the list of the part that begins at an octet.
+fn number_at(header: Header, width: Width, octets: &[u8], part: usize, count: u8, i: usize) -> u64
+    requires within { part + part_octets header count ≤ length octets.now }
+    requires there { i < count }
+    requires fits { width_octets width ≤ field_octets header }
+    ensures { result ≡ slice_index (list_in header width count (drop part octets.now)) i }
+{
+    let field = field_len(header);
+    let at = part + (field + (field * i + offset(header, width)));
+    get(width, octets, at)
+}
+
+// Where the part of the reads begins.
+fn second_part(header: Header, octets: &[u8]) -> usize
+    requires { 4 ≤ length octets.now }
+    ensures { result ≡ unit_octets header + part_octets header (slice_index octets.now 2) }
+{
+    unit_len(header) + part_len(header, octets[2])
 }

@@ -1,3 +1,5 @@
+//! A list of numbers, which contracts see as the list.
+
 ghost use Rattle.std.specs.Prelude.{◌≡◌, ◌++◌, ◌∷◌, ◌<◌, [], length, slice_index, OnOk, OnErr};
 
 use eb_base::NoMemory;
