@@ -159,3 +159,41 @@ fn narrow_record(rt: HostRuntime) -> Result<(), Fail> {
     );
     Ok(())
 }
+
+// The last word that a stream writes, for a slave with all widths; none where the stream is refused.
+fn last_word(alloc: Global, octets: &[u8]) -> Result<Option<u64>, NoMemory>
+    requires fewer { length octets.now < 2 ^ 64 }
+{
+    let sets = Widths {
+        addresses: 15,
+        ports: 15,
+    };
+    let mut decoder = Decoder::new(alloc, sets)?;
+    let mut last = None;
+    let mut at = 0;
+    'feeding: while at < octets.len() {
+        let Ok(step) = decoder.feed(&octets[at..]) else {
+            return Ok(None);
+        };
+        if let Item::Record(_) = step.item {
+            let record = decoder.record();
+            let writes = record.head().writes;
+            if writes > 0 {
+                last = Some(record.value(usize::from(writes) - 1));
+            }
+        }
+        at += step.taken;
+    }
+    Ok(last)
+}
+
+// The header and a record of two values, in fields of 2 octets.
+#[test]
+fn last_word_of_two(rt: HostRuntime) -> Result<(), Fail> {
+    let octets = [
+        0x4e, 0x6f, 0x10, 0x22, 0x08, 3, 2, 0, 0, 0x11, 0xbe, 0xef, 0xca, 0xfe, 0, 0,
+    ];
+    let word = last_word(rt.alloc(), &octets).ok().ok_or("room")?;
+    assert!(rt; word == Some(0xcafe));
+    Ok(())
+}
