@@ -12,14 +12,14 @@ use Rattle.eb_codec.specs.declared.event.Item.TheVariants as item
 use Rattle.eb_codec.specs.Rules.{has}
 use Rattle.eb_codec.specs.Stream.{HaveWidths, StreamItem, Probed, Headed, Recorded, BreaksNone, Spells, IsPartial}
 use Rattle.eb_codec.specs.Reading.{size, item_in, record_of, probe_of, header_of}
-use Rattle.eb_codec.specs.Decoding.{Progress, told, Gives, TakesAll, Takes, Refuses}
+use Rattle.eb_codec.specs.Decoding.{DecoderState, told, Gives, TakesAll, Takes, Refuses}
 use Rattle.eb_codec.specs.Filling.{IsFilled, IsBroken}
 use Rattle.eb_codec.specs.Keeping.{tells_record, kept_octets, header_told}
-use Rattle.eb_codec.specs.Inside.{pending_in, progress_of, Holds}
+use Rattle.eb_codec.specs.Inside.{pending_in, state_of, Holds}
 use Rattle.eb_codec.proofs.FieldLemmas.{IsBytes-take}
 use Rattle.eb_codec.proofs.ItemLemmas.{size-ge, spells_item_in}
-use Rattle.eb_codec.proofs.Completion.{is_partial, IsBytes-zeros}
-use Rattle.eb_codec.proofs.Bad.{bad_octet}
+use Rattle.eb_codec.proofs.CompletionLemmas.{is_partial, IsBytes-zeros}
+use Rattle.eb_codec.proofs.BadLemmas.{bad_octet}
 use Rattle.eb_codec.proofs.RoomLemmas.{size_take}
 use Rattle.eb_codec.proofs.ViewLemmas.{is_record}
 
@@ -46,7 +46,7 @@ pends sets header room n false len h e =
 -- less than an item
 pub not_yet : (sets : Widths) (header : Option Header) (held : List ℕ) (shows : Bool) (start : ℕ) (fault : Option Malformed) (piece room room' : List ℕ) (len n : ℕ) → HaveWidths sets → IsBytes room' → Pends sets header (pending_in shows held) room len → length (take len room) ≡ len
     → n ≤ length room' → IsFilled sets header (take len room) piece room' n → n < size header (take n room') → n ≡ len + length piece
-    → Takes (progress_of sets header held shows start fault) piece (record { taken = n - len; item = item.NotYet }) (progress_of sets header (take n room') false start fault)
+    → Takes (state_of sets header held shows start fault) piece (record { taken = n - len; item = item.NotYet }) (state_of sets header (take n room') false start fault)
 not_yet sets header held shows start fault piece room room' len n have bytes p plen fits filled lt all =
     let pending : List ℕ = pending_in shows held in
     let same : take n room' ≡ pending ++ take (n - len) piece = filled.holds ∙ ap (λ (k : ℕ). take len room ++ take (n - k) piece) plen ∙ ap (λ (l : List ℕ). l ++ take (n - len) piece) p.is in
@@ -60,16 +60,16 @@ not_yet sets header held shows start fault piece room room' len n have bytes p p
 -- the first bad octet
 pub refused : (sets : Widths) (header : Option Header) (held : List ℕ) (shows : Bool) (start : ℕ) (fault : Option Malformed) (piece room room' : List ℕ) (len at : ℕ) (why : Why) → HaveWidths sets → IsBytes (pending_in shows held ++ piece) → Pends sets header (pending_in shows held) room len
     → IsBroken sets header (take len room ++ piece) at why
-    → Refuses (progress_of sets header held shows start fault) piece (record { place = start + at; why = why }) (progress_of sets header (take 0 room') false start (Some (record { place = start + at; why = why })))
+    → Refuses (state_of sets header held shows start fault) piece (record { place = start + at; why = why }) (state_of sets header (take 0 room') false start (Some (record { place = start + at; why = why })))
 refused sets header held shows start fault piece room room' len at why have bytes p broke =
     let octets : List ℕ = pending_in shows held ++ piece in
     let same : take len room ++ piece ≡ octets = ap (λ (l : List ℕ). l ++ piece) p.is in
     let broke' : IsBroken sets header octets at why = subst (λ (l : List ℕ). IsBroken sets header l at why) same broke in
-    record { place = (at, refl, bad_octet sets header octets at why have bytes broke'.inside broke'.none broke'.rule); after = refl }
+    record { at = (at, refl, bad_octet sets header octets at why have bytes broke'.inside broke'.none broke'.rule); after = refl }
 
-same_progress : (sets : Widths) (h : Header) (fault : Option Malformed) (start n m : ℕ) (a b : List ℕ) → n ≡ m → a ≡ b
-    → progress_of sets (Some h) a true (start + n) fault ≡ record { sets = sets; header = Some h; start = start + m; pending = []; shown = Some (record_of h b); fault = fault }
-same_progress sets h fault start n m a b p q = λ i. record { sets = sets; header = Some h; start = start + p i; pending = []; shown = Some (record_of h (q i)); fault = fault }
+same_state : (sets : Widths) (h : Header) (fault : Option Malformed) (start n m : ℕ) (a b : List ℕ) → n ≡ m → a ≡ b
+    → state_of sets (Some h) a true (start + n) fault ≡ record { sets = sets; header = Some h; start = start + m; pending = []; shown = Some (record_of h b); fault = fault }
+same_state sets h fault start n m a b p q = λ i. record { sets = sets; header = Some h; start = start + p i; pending = []; shown = Some (record_of h (q i)); fault = fault }
 
 takes_all : (x : StreamItem) (taken len : ℕ) → taken ≤ len → TakesAll (told x) taken len
 takes_all (Probed p) taken len le = le
@@ -78,8 +78,8 @@ takes_all (Recorded r) taken len le = le
 
 -- a whole item
 pub gives_whole : (sets : Widths) (header : Option Header) (held : List ℕ) (shows : Bool) (start : ℕ) (fault : Option Malformed) (octets room' : List ℕ) (n : ℕ) → BreaksNone sets header octets → length octets ≡ size header octets → IsBytes octets → take n room' ≡ octets → length octets ≡ n
-    → Gives (progress_of sets header held shows start fault) octets (told (item_in header octets))
-    (progress_of sets (header_told header (told (item_in header octets))) (take (kept_octets (told (item_in header octets)) n) room') (tells_record (told (item_in header octets))) (start + n) fault)
+    → Gives (state_of sets header held shows start fault) octets (told (item_in header octets))
+    (state_of sets (header_told header (told (item_in header octets))) (take (kept_octets (told (item_in header octets)) n) room') (tells_record (told (item_in header octets))) (start + n) fault)
 unfolding item_in
 gives_whole sets None held shows start fault octets room' n none len bytes front n-is =
     let s : Spells sets None (item_in None octets) octets = spells_item_in sets None octets none len bytes in
@@ -95,7 +95,7 @@ gives_whole sets (Some h) held shows start fault octets room' n none len bytes f
   record_of h octets,
   refl,
   spells_item_in sets (Some h) octets none len bytes,
-  same_progress sets h fault start n (length octets) (take n room') octets (sym n-is) front,
+  same_state sets h fault start n (length octets) (take n room') octets (sym n-is) front,
 )
 
 -- a whole item wasn't there before
@@ -113,15 +113,15 @@ moves_on sets header pending piece room room' len n p plen filled size-is =
 
 pub whole : (sets : Widths) (header : Option Header) (held : List ℕ) (shows : Bool) (start : ℕ) (fault : Option Malformed) (piece room room' : List ℕ) (len n : ℕ) → IsBytes room' → Pends sets header (pending_in shows held) room len → length (take len room) ≡ len
     → n ≤ length room' → IsFilled sets header (take len room) piece room' n → n ≡ size header (take n room')
-    → Takes (progress_of sets header held shows start fault) piece (record { taken = n - len; item = told (item_in header (take n room')) })
-    (progress_of sets (header_told header (told (item_in header (take n room')))) (take (kept_octets (told (item_in header (take n room'))) n) room') (tells_record (told (item_in header (take n room')))) (start + n) fault)
+    → Takes (state_of sets header held shows start fault) piece (record { taken = n - len; item = told (item_in header (take n room')) })
+    (state_of sets (header_told header (told (item_in header (take n room')))) (take (kept_octets (told (item_in header (take n room'))) n) room') (tells_record (told (item_in header (take n room')))) (start + n) fault)
 whole sets header held shows start fault piece room room' len n bytes p plen fits filled size-is =
     let octets : List ℕ = take n room' in
-    let old : Progress = progress_of sets header held shows start fault in
+    let old : DecoderState = state_of sets header held shows start fault in
     let long : length octets ≡ n = omega (arith, length-take n room') in
     let same : octets ≡ pending_in shows held ++ take (n - len) piece = filled.holds ∙ ap (λ (k : ℕ). take len room ++ take (n - k) piece) plen ∙ ap (λ (l : List ℕ). l ++ take (n - len) piece) p.is in
     let moved : 0 < n - len = moves_on sets header (pending_in shows held) piece room room' len n p plen filled size-is in
-    let new : Progress = progress_of sets (header_told header (told (item_in header octets))) (take (kept_octets (told (item_in header octets)) n) room') (tells_record (told (item_in header octets))) (start + n) fault in
+    let new : DecoderState = state_of sets (header_told header (told (item_in header octets))) (take (kept_octets (told (item_in header octets)) n) room') (tells_record (told (item_in header octets))) (start + n) fault in
     let gives : Gives old octets (told (item_in header octets)) new = gives_whole sets header held shows start fault octets room' n filled.none (long ∙ size-is) (IsBytes-take n room' bytes) refl long in
     record {
       taken = takes_all (item_in header octets) (n - len) (length piece) (omega (arith, filled.most));
@@ -170,5 +170,5 @@ if_none P Q None e p = p
 if_none P Q (Some x) e p = absurd cc
 
 -- what holds of the decoder that the fields stand for
-pub fed_from : (P : Progress → Type 0) (Q : Progress → Malformed → Type 0) (w v : Progress) → w ≡ v → w.fault ≡ None → P w → MatchOption v.fault (P v) (Q v)
-fed_from P Q w v e n p = if_none (P v) (Q v) v.fault (ap (λ (x : Progress). x.fault) (sym e) ∙ n) (subst P e p)
+pub fed_from : (P : DecoderState → Type 0) (Q : DecoderState → Malformed → Type 0) (w v : DecoderState) → w ≡ v → w.fault ≡ None → P w → MatchOption v.fault (P v) (Q v)
+fed_from P Q w v e n p = if_none (P v) (Q v) v.fault (ap (λ (x : DecoderState). x.fault) (sym e) ∙ n) (subst P e p)

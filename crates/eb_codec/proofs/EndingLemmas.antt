@@ -13,8 +13,8 @@ use Rattle.eb_codec.specs.Filling.{IsBroken}
 use Rattle.eb_codec.specs.Endings.{HaveEnd}
 use Rattle.eb_codec.proofs.FieldLemmas.{IsBytes-take, IsBytes-drop}
 use Rattle.eb_codec.proofs.ItemLemmas.{size-ge, spells_item_in, one_spelling}
-use Rattle.eb_codec.proofs.Completion.{is_partial}
-use Rattle.eb_codec.proofs.Bad.{bad_octet}
+use Rattle.eb_codec.proofs.CompletionLemmas.{is_partial}
+use Rattle.eb_codec.proofs.BadLemmas.{bad_octet}
 use Rattle.eb_codec.proofs.RoomLemmas.{take-append-ge, broken_take, size_take}
 use Rattle.eb_codec.proofs.StreamLemmas.{spells_one, spells_append, no_whole, longest, first_bad}
 

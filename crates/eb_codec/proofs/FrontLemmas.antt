@@ -6,7 +6,7 @@ use Rattle.eb_codec.specs.declared.item.Why.{Why}
 use Rattle.eb_codec.specs.Rules.{broken}
 use Rattle.eb_codec.specs.Stream.{StreamItem, SpellsAll, BeginsStream, AreItems, IsFirstBad, HasNoBad, header_after_all}
 use Rattle.eb_codec.proofs.ItemLemmas.{broken_front}
-use Rattle.eb_codec.proofs.OneReading.{longer}
+use Rattle.eb_codec.proofs.OneReadingLemmas.{longer}
 
 -- no octet is bad that begins a stream
 pub no_bad_before : (sets : Widths) (octets more whole : List ℕ) (items : List StreamItem) → whole ≡ octets ++ more → SpellsAll sets None items whole → HasNoBad sets octets

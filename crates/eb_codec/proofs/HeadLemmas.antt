@@ -30,7 +30,7 @@ bit-width_of b one =
       ]
     ]
 
--- the octets from place 4 on
+-- the octets from the fifth on
 whole_probe : (o : List ℕ) → 4 ≤ length o → o ≡ get_or o 0 0 ∷ get_or o 1 0 ∷ get_or o 2 0 ∷ get_or o 3 0 ∷ drop 4 o
 whole_probe o long = sym (take-append-drop 4 o) ∙ ap (λ (x : List ℕ). x ++ drop 4 o) (four o long)
 
@@ -93,7 +93,7 @@ is_probe-version true false = refl
 is_probe-version false true = refl
 is_probe-version false false = refl
 
--- a list of at least four, from its place 4 on
+-- a list of at least four, from its fifth on
 pub probe_read : (p : Probe) (o : List ℕ) → FitsProbe p → Fills o (probe_form p) → (probe_of o ≡ p) × (has (get_or o 2 0) 1 ≡ true) × (length o ≡ 8)
 probe_read p o fits fills =
     let v : ℕ = version_octet p.no_reply true in

@@ -12,7 +12,7 @@ use Rattle.eb_codec.specs.Reading.{size, item_in, base_in, list_in, part_octets,
 use Rattle.eb_codec.specs.View.{RecordBehind, IsRecord}
 use Rattle.eb_codec.proofs.RecordLemmas.{four-unit}
 use Rattle.eb_codec.proofs.ItemLemmas.{spells_item_in, form_read}
-use Rattle.eb_codec.proofs.Kept.{kept_record}
+use Rattle.eb_codec.proofs.KeptLemmas.{kept_record}
 use Rattle.eb_codec.proofs.ReadingLemmas.{part_within, record_parts-are}
 
 spells_record : (sets : Widths) (h : Header) (o : List ℕ) → BreaksNone sets (Some h) o → length o ≡ size (Some h) o → IsBytes o → Spells sets (Some h) (Recorded (record_of h o)) o

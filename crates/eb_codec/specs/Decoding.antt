@@ -9,9 +9,9 @@ use Rattle.eb_codec.specs.declared.event.Step.{Step}
 use Rattle.eb_codec.specs.declared.event.Malformed.{Malformed}
 use Rattle.eb_codec.specs.Stream.{StreamItem, Probed, Headed, Recorded, Spells, IsPartial, IsBadOctet, header_after}
 
--- A decoder: the slave's sets of widths, the header once it came, the place of the first octet that belongs to no whole
+-- A decoder: the slave's sets of widths, the header once it came, the index of the first octet that belongs to no whole
 -- item, the octets from there on, the record that the last call gave, and what was wrong.
-pub record Progress : Type 0 where
+pub record DecoderState : Type 0 where
   pub sets : Widths
   pub header : Option Header
   pub start : ℕ
@@ -20,7 +20,7 @@ pub record Progress : Type 0 where
   pub fault : Option Malformed
 
 -- at the start of a stream
-abbrev pub fresh : Widths → Progress
+abbrev pub fresh : Widths → DecoderState
 fresh sets = record { sets = sets; header = None; start = 0; pending = []; shown = None; fault = None }
 
 -- the record that is shown, one of zeros and no numbers where none is
@@ -35,7 +35,7 @@ told (Headed h) = item.Header h
 told (Recorded r) = item.Record r.head
 
 -- The octets that pended and those that were taken are this, and the decoder goes on so.
-abbrev pub Gives : Progress → List ℕ → Item → Progress → Type 0
+abbrev pub Gives : DecoderState → List ℕ → Item → DecoderState → Type 0
 Gives old octets item.NotYet new = IsPartial old.sets old.header octets × (new ≡ record old { pending = octets; shown = None })
 Gives old octets (item.Probe p) new = Spells old.sets old.header (Probed p) octets
     × (new ≡ record old { start = old.start + length octets; pending = []; shown = None })
@@ -52,31 +52,31 @@ TakesAll (item.Header h) taken len = taken ≤ len
 TakesAll (item.Record head) taken len = taken ≤ len
 
 -- The piece was taken up to the end of one item.
-pub record Takes (old : Progress) (piece : List ℕ) (step : Step) (new : Progress) : Type 0 where
+pub record Takes (old : DecoderState) (piece : List ℕ) (step : Step) (new : DecoderState) : Type 0 where
   pub taken : TakesAll step.item step.taken (length piece)
   pub moves : 0 < length piece → 0 < step.taken
   pub gives : Gives old (old.pending ++ take step.taken piece) step.item new
 
--- The first bad octet of the item is among what pended and the piece. The fault names its place in the stream and stays.
-pub record Refuses (old : Progress) (piece : List ℕ) (fault : Malformed) (new : Progress) : Type 0 where
-  pub place : (p : ℕ) × (fault.place ≡ old.start + p) × IsBadOctet old.sets old.header (old.pending ++ piece) p fault.why
+-- The first bad octet of the item is among what pended and the piece. The fault names its index in the stream and stays.
+pub record Refuses (old : DecoderState) (piece : List ℕ) (fault : Malformed) (new : DecoderState) : Type 0 where
+  pub at : (p : ℕ) × (fault.place ≡ old.start + p) × IsBadOctet old.sets old.header (old.pending ++ piece) p fault.why
   pub after : new ≡ record old { pending = []; shown = None; fault = Some fault }
 
 -- One call. What was wrong once is answered again, and nothing changes.
-abbrev pub Feeds : Progress → List ℕ → Result Step Malformed → Progress → Type 0
+abbrev pub Feeds : DecoderState → List ℕ → Result Step Malformed → DecoderState → Type 0
 Feeds old piece answer new = MatchOption old.fault
     (MatchResult answer (λ step. Takes old piece step new) (λ fault. Refuses old piece fault new))
     (λ fault. (answer ≡ Err fault) × (new ≡ old))
 
 -- Where a decoder stands after a step: so many octets of the piece further, no more than there are, and some where
 -- there are some.
-pub record IsPlaced (old new : Progress) (len : ℕ) (step : Step) : Type 0 where
+pub record Stands (old new : DecoderState) (len : ℕ) (step : Step) : Type 0 where
   pub within : step.taken ≤ len
-  pub place : new.start + length new.pending ≡ old.start + length old.pending + step.taken
+  pub at : new.start + length new.pending ≡ old.start + length old.pending + step.taken
   pub moves : 0 < len → 0 < step.taken
 
 -- A record that was given is shown, with as many numbers as its head says.
-abbrev pub Shows : Item → Progress → Type 0
+abbrev pub Shows : Item → DecoderState → Type 0
 Shows item.NotYet new = new.shown ≡ None
 Shows (item.Probe p) new = new.shown ≡ None
 Shows (item.Header h) new = new.shown ≡ None
@@ -90,5 +90,5 @@ shown_of (Headed h) = None
 shown_of (Recorded r) = Some r
 
 -- the decoder behind an item of these octets
-abbrev pub after_item : Progress → StreamItem → List ℕ → Progress
+abbrev pub after_item : DecoderState → StreamItem → List ℕ → DecoderState
 after_item old x octets = record old { header = header_after old.header x; start = old.start + length octets; pending = []; shown = shown_of x }

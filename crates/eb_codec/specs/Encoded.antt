@@ -10,7 +10,7 @@ use Rattle.eb_codec.specs.declared.event.Malformed.{Malformed}
 use Rattle.eb_codec.specs.Rules.{has}
 use Rattle.eb_codec.specs.Form.{zeroed, KeepsRules, probe_form, header_form, record_form, FitsProbe, FitsRecord}
 use Rattle.eb_codec.specs.Stream.{StreamItem, Probed, Headed, Recorded, Spells}
-use Rattle.eb_codec.specs.Decoding.{Progress, told, Feeds, after_item}
+use Rattle.eb_codec.specs.Decoding.{DecoderState, told, Feeds, after_item}
 
 -- An encoded record spells the record behind its header.
 abbrev pub EncodedSpells : Type 0
@@ -25,26 +25,26 @@ abbrev pub EncodedProbeSpells : Type 0
 EncodedProbeSpells = (sets : Widths) (p : Probe) → FitsProbe p → has p.widths.addresses sets.addresses ≡ true → has p.widths.ports sets.ports ≡ true → Spells sets None (Probed p) (zeroed (probe_form p))
 
 -- The decoder waits for the first octet of an item, behind this header or before any.
-pub record Awaits (p : Progress) (header : Option Header) : Type 0 where
+pub record Awaits (p : DecoderState) (header : Option Header) : Type 0 where
   pub header_is : p.header ≡ header
   pub nothing : p.pending ≡ []
   pub no_fault : p.fault ≡ None
 
 -- The call took these octets and no more, and gave this item.
-abbrev pub GivesOnly : Progress → StreamItem → List ℕ → Result Step Malformed → Progress → Type 0
+abbrev pub GivesOnly : DecoderState → StreamItem → List ℕ → Result Step Malformed → DecoderState → Type 0
 GivesOnly old x octets answer new = (answer ≡ Ok (record { taken = length octets; item = told x })) × (new ≡ after_item old x octets)
 
 -- An encoded record is decoded again behind its header, whatever follows it.
 abbrev pub DecodesRecord : Type 0
-DecodesRecord = (old new : Progress) (h : Header) (r : Record) (rest : List ℕ) (answer : Result Step Malformed) → Awaits old (Some h) → FitsRecord h r → KeepsRules h r.head
+DecodesRecord = (old new : DecoderState) (h : Header) (r : Record) (rest : List ℕ) (answer : Result Step Malformed) → Awaits old (Some h) → FitsRecord h r → KeepsRules h r.head
     → Feeds old (zeroed (record_form h r) ++ rest) answer new → GivesOnly old (Recorded r) (zeroed (record_form h r)) answer new
 
 -- An encoded header is decoded again where none came before and the slave has its widths, whatever follows it.
 abbrev pub DecodesHeader : Type 0
-DecodesHeader = (old new : Progress) (h : Header) (rest : List ℕ) (answer : Result Step Malformed) → Awaits old None → has (bit h.address) old.sets.addresses ≡ true → has (bit h.port) old.sets.ports ≡ true
+DecodesHeader = (old new : DecoderState) (h : Header) (rest : List ℕ) (answer : Result Step Malformed) → Awaits old None → has (bit h.address) old.sets.addresses ≡ true → has (bit h.port) old.sets.ports ≡ true
     → Feeds old (zeroed (header_form h) ++ rest) answer new → GivesOnly old (Headed h) (zeroed (header_form h)) answer new
 
 -- An encoded probe is decoded again where no header came before and the slave has widths of its sets, whatever follows it.
 abbrev pub DecodesProbe : Type 0
-DecodesProbe = (old new : Progress) (p : Probe) (rest : List ℕ) (answer : Result Step Malformed) → Awaits old None → FitsProbe p → has p.widths.addresses old.sets.addresses ≡ true → has p.widths.ports old.sets.ports ≡ true
+DecodesProbe = (old new : DecoderState) (p : Probe) (rest : List ℕ) (answer : Result Step Malformed) → Awaits old None → FitsProbe p → has p.widths.addresses old.sets.addresses ≡ true → has p.widths.ports old.sets.ports ≡ true
     → Feeds old (zeroed (probe_form p) ++ rest) answer new → GivesOnly old (Probed p) (zeroed (probe_form p)) answer new

@@ -13,7 +13,7 @@ pub record IsFilled (sets : Widths) (header : Option Header) (pending piece room
   pub holds : take n room ≡ pending ++ take (n - length pending) piece
   pub none : BreaksNone sets header (take n room)
 
--- The octet at this place of the item breaks this rule, and none before it breaks one.
+-- This octet of the item breaks this rule, and none before it breaks one.
 pub record IsBroken (sets : Widths) (header : Option Header) (octets : List ℕ) (p : ℕ) (why : Why) : Type 0 where
   pub inside : p < length octets
   pub none : BreaksNone sets header (take p octets)

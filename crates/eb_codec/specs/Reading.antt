@@ -43,7 +43,7 @@ unfoldable pub size : Option Header → List ℕ → ℕ
 size None o = if has (slice_index o 2) PF then 8 else unit_octets (header_of o)
 size (Some h) o = record_octets h (slice_index o 2) (slice_index o 3)
 
--- the number at the end of a field that begins at a place
+-- the number at the end of a field that begins at an octet
 abbrev pub number_in : Header → Width → List ℕ → ℕ → ℕ
 number_in h w o at = number_at w o (at + (field_octets h - octets w))
 

@@ -66,7 +66,7 @@ pub record AreItems (sets : Widths) (header : Option Header) (octets : List ℕ)
   pub front : (a : List ℕ) × (octets ≡ a ++ rest) × SpellsAll sets header items a
   pub longest : (others : List StreamItem) (a b : List ℕ) → octets ≡ a ++ b → SpellsAll sets header others a → length others ≤ length items
 
--- The octet at place p is the first bad one: those before it begin a stream, with it they begin none, and of the item
+-- Octet p is the first bad one: those before it begin a stream, with it they begin none, and of the item
 -- that it is in, behind whole items, it breaks this rule and none with a lower number.
 pub record IsFirstBad (sets : Widths) (header : Option Header) (octets : List ℕ) (p : ℕ) (why : Why) : Type 0 where
   pub inside : p < length octets
@@ -82,7 +82,7 @@ HasNoBad sets octets = (p : ℕ) (why : Why) → IsFirstBad sets None octets p w
 abbrev pub IsPartial : Widths → Option Header → List ℕ → Type 0
 IsPartial sets header octets = (item : StreamItem) × (b : ℕ) × (more : List ℕ) × Spells sets header item (octets ++ b ∷ more) × IsBytes (b ∷ more)
 
--- The octet at place p of an item is its first bad one: those before it are a proper prefix of an item, with it they begin
+-- Octet p of an item is its first bad one: those before it are a proper prefix of an item, with it they begin
 -- none, and it breaks this rule and none with a lower number.
 pub record IsBadOctet (sets : Widths) (header : Option Header) (octets : List ℕ) (p : ℕ) (why : Why) : Type 0 where
   pub inside : p < length octets

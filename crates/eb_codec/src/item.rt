@@ -45,7 +45,7 @@ pub struct Record {
 }
 
 /// The rules that an octet of a stream may break, in the order of their numbers. Where one octet breaks several, the
-/// first of them is told. Places count from the item's first octet as 0.
+/// first of them is told. Octets are counted from the item's first as 0.
 #[derive(Clone, Copy, Debug, PartialEq, Eq)]
 pub enum Why {
     /// Octet 0 or 1 of a header or probe isn't the magic.

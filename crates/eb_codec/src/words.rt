@@ -34,7 +34,7 @@ impl Words {
         self.items.len()
     }
 
-    /// The number at a place, from 0.
+    /// The number of index i, from 0.
     pub fn get(&self, i: usize) -> &u64
         requires there { i < length self.now }
         ensures value { result.now ≡ slice_index self.now i }

@@ -10,8 +10,8 @@ use Rattle.eb_codec.specs.Form.{zeroed, field, part, FitsRecord, KeepsRules}
 use Rattle.eb_codec.specs.Stream.{SpellsAll, Spells, Recorded}
 use Rattle.eb_codec.specs.Sizes.{gap}
 use Rattle.eb_codec.specs.Reading.{part_octets, body_octets}
-use Rattle.eb_codec.proofs.Zeroed.{zeroed-append, zeroed-fixed, zeroed_record}
-use Rattle.eb_codec.proofs.Encoded.{encoded_spells, encoded_header_spells}
+use Rattle.eb_codec.proofs.ZeroedLemmas.{zeroed-append, zeroed-fixed, zeroed_record}
+use Rattle.eb_codec.proofs.EncodedLemmas.{encoded_spells, encoded_header_spells}
 use Rattle.eb_load.specs.Draws.{next, drawn, after}
 use Rattle.eb_load.specs.Stream.{load_header, write_count, write_base, read_count, values_from, addresses_from, after_values, after_record, load_record, record_octets, record_items, octets_of_records, slave_widths, SpellsLoad, IsShort}
 use Rattle.eb_load.proofs.Drawing.{octets_of_all}

@@ -12,7 +12,7 @@ use Rattle.eb_io.specs.Writing.{Writing}
 use Rattle.eb_codec.specs.declared.item.Why.{Why}
 use Rattle.eb_codec.specs.Stream.{StreamItem, SpellsAll, AreItems, HaveWidths, IsFirstBad, HasNoBad}
 use Rattle.eb_codec.proofs.FieldLemmas.{IsBytes-take}
-use Rattle.eb_codec.proofs.OneReading.{one_list_of_items, one_first_bad}
+use Rattle.eb_codec.proofs.OneReadingLemmas.{one_list_of_items, one_first_bad}
 use Rattle.eb_codec.proofs.EndingLemmas.{have_end}
 use Rattle.eb_codec.proofs.FrontLemmas.{no_bad_before, none_left, bad_of_more, bad_of_front}
 use Rattle.wb_signals.specs.History.{Entry}

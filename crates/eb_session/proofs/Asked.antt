@@ -11,7 +11,7 @@ use Rattle.eb_codec.specs.Rules.{has}
 use Rattle.eb_codec.specs.Sizes.{unit_octets, gap}
 use Rattle.eb_codec.specs.Form.{Form, fixed, padding, zeroed, field, part, record_body, record_form}
 use Rattle.eb_codec.specs.Reading.{body_octets}
-use Rattle.eb_codec.proofs.Zeroed.{zeroed-append, zeroed-padding, zeroed_part}
+use Rattle.eb_codec.proofs.ZeroedLemmas.{zeroed-append, zeroed-padding, zeroed_part}
 use Rattle.eb_codec.proofs.RecordLemmas.{length-record_body}
 use Rattle.wb_signals.specs.Request.{Request}
 use Rattle.wb_signals.specs.declared.answer.Answer.{Answer}

@@ -14,10 +14,10 @@ use Rattle.eb_codec.specs.declared.event.Malformed.{Malformed}
 use Rattle.eb_codec.specs.declared.event.Step.{Step}
 use Rattle.eb_codec.specs.declared.event.Item.{Item}
 use Rattle.eb_codec.specs.declared.event.Item.TheVariants as item
-use Rattle.eb_codec.specs.Decoding.{Progress, Takes, Gives, Refuses, record_in}
+use Rattle.eb_codec.specs.Decoding.{DecoderState, Takes, Gives, Refuses, record_in}
 use Rattle.eb_codec.specs.Decoding.{Feeds as Decodes}
 use Rattle.eb_codec.specs.Stream.{StreamItem, Probed, Headed, Recorded, Spells, IsPartial, IsBadOctet}
-use Rattle.eb_codec.proofs.Again.{one_bad_octet}
+use Rattle.eb_codec.proofs.AgainLemmas.{one_bad_octet}
 use Rattle.eb_codec.proofs.RoomLemmas.{take-append-ge}
 use Rattle.eb_codec.proofs.StreamLemmas.{no_whole}
 use Rattle.wb_signals.specs.Request.{Request}
@@ -44,44 +44,44 @@ from_view m k v new piece before after answer e n p =
 -- ---- the decoder's step
 
 -- an item came only where no fault came before
-takes_by : (old new : Progress) (piece : List ℕ) (step : Step) (f : Option Malformed) → old.fault ≡ f → Decodes old piece (Ok step) new → Takes old piece step new
+takes_by : (old new : DecoderState) (piece : List ℕ) (step : Step) (f : Option Malformed) → old.fault ≡ f → Decodes old piece (Ok step) new → Takes old piece step new
 takes_by old new piece step None e d = subst (λ (q : Option Malformed). MatchOption q (Takes old piece step new) (λ fault. (Ok step ≡ Err fault) × (new ≡ old))) e d
 takes_by old new piece step (Some f) e d = let q = subst (λ (q : Option Malformed). MatchOption q (Takes old piece step new) (λ fault. (Ok step ≡ Err fault) × (new ≡ old))) e d in cc q.0
 
-pub takes : (old new : Progress) (piece : List ℕ) (step : Step) → Decodes old piece (Ok step) new → Takes old piece step new
+pub takes : (old new : DecoderState) (piece : List ℕ) (step : Step) → Decodes old piece (Ok step) new → Takes old piece step new
 takes old new piece step d = takes_by old new piece step old.fault refl d
 
-pub gives_sets : (old new : Progress) (o : List ℕ) (i : Item) → Gives old o i new → new.sets ≡ old.sets
-gives_sets old new o item.NotYet g = ap (λ (p : Progress). p.sets) g.1
-gives_sets old new o (item.Probe q) g = ap (λ (p : Progress). p.sets) g.1
-gives_sets old new o (item.Header h) g = ap (λ (p : Progress). p.sets) g.1
-gives_sets old new o (item.Record d) g = ap (λ (p : Progress). p.sets) g.3
+pub gives_sets : (old new : DecoderState) (o : List ℕ) (i : Item) → Gives old o i new → new.sets ≡ old.sets
+gives_sets old new o item.NotYet g = ap (λ (p : DecoderState). p.sets) g.1
+gives_sets old new o (item.Probe q) g = ap (λ (p : DecoderState). p.sets) g.1
+gives_sets old new o (item.Header h) g = ap (λ (p : DecoderState). p.sets) g.1
+gives_sets old new o (item.Record d) g = ap (λ (p : DecoderState). p.sets) g.3
 
-pub gives_fault : (old new : Progress) (o : List ℕ) (i : Item) → Gives old o i new → new.fault ≡ old.fault
-gives_fault old new o item.NotYet g = ap (λ (p : Progress). p.fault) g.1
-gives_fault old new o (item.Probe q) g = ap (λ (p : Progress). p.fault) g.1
-gives_fault old new o (item.Header h) g = ap (λ (p : Progress). p.fault) g.1
-gives_fault old new o (item.Record d) g = ap (λ (p : Progress). p.fault) g.3
+pub gives_fault : (old new : DecoderState) (o : List ℕ) (i : Item) → Gives old o i new → new.fault ≡ old.fault
+gives_fault old new o item.NotYet g = ap (λ (p : DecoderState). p.fault) g.1
+gives_fault old new o (item.Probe q) g = ap (λ (p : DecoderState). p.fault) g.1
+gives_fault old new o (item.Header h) g = ap (λ (p : DecoderState). p.fault) g.1
+gives_fault old new o (item.Record d) g = ap (λ (p : DecoderState). p.fault) g.3
 
 abbrev IsNarrow : Width → Option Header → Type 0
 IsNarrow bus header = IfSome header (λ h. octets h.port ≤ octets bus)
 
 -- the port of the stream's header is no wider than the bus
-pub gives_narrow : (bus : Width) (old new : Progress) (o : List ℕ) (i : Item) → old.sets ≡ sets_of bus → IsNarrow bus old.header → Gives old o i new → IsNarrow bus new.header
-gives_narrow bus old new o item.NotYet e n g = subst (IsNarrow bus) (sym (ap (λ (p : Progress). p.header) g.1)) n
-gives_narrow bus old new o (item.Probe q) e n g = subst (IsNarrow bus) (sym (ap (λ (p : Progress). p.header) g.1)) n
-gives_narrow bus old new o (item.Header h) e n g = subst (IsNarrow bus) (sym (ap (λ (p : Progress). p.header) g.1)) (narrow bus old.sets old.header h o e g.0)
-gives_narrow bus old new o (item.Record d) e n g = subst (IsNarrow bus) (sym (ap (λ (p : Progress). p.header) g.3)) n
+pub gives_narrow : (bus : Width) (old new : DecoderState) (o : List ℕ) (i : Item) → old.sets ≡ sets_of bus → IsNarrow bus old.header → Gives old o i new → IsNarrow bus new.header
+gives_narrow bus old new o item.NotYet e n g = subst (IsNarrow bus) (sym (ap (λ (p : DecoderState). p.header) g.1)) n
+gives_narrow bus old new o (item.Probe q) e n g = subst (IsNarrow bus) (sym (ap (λ (p : DecoderState). p.header) g.1)) n
+gives_narrow bus old new o (item.Header h) e n g = subst (IsNarrow bus) (sym (ap (λ (p : DecoderState). p.header) g.1)) (narrow bus old.sets old.header h o e g.0)
+gives_narrow bus old new o (item.Record d) e n g = subst (IsNarrow bus) (sym (ap (λ (p : DecoderState). p.header) g.3)) n
 
-probe_fits : (old : Progress) (header : Option Header) (q : Probe) (o : List ℕ) → Spells old.sets header (Probed q) o → Told (item.Probe q) old
+probe_fits : (old : DecoderState) (header : Option Header) (q : Probe) (o : List ℕ) → Spells old.sets header (Probed q) o → Told (item.Probe q) old
 probe_fits old None q o s = s.form.0
 probe_fits old (Some h) q o s = elim s.form [ ]
 
-pub gives_told : (old new : Progress) (o : List ℕ) (i : Item) → Gives old o i new → Told i new
+pub gives_told : (old new : DecoderState) (o : List ℕ) (i : Item) → Gives old o i new → Told i new
 gives_told old new o item.NotYet g = tt
 gives_told old new o (item.Probe q) g = probe_fits old old.header q o g.0
 gives_told old new o (item.Header h) g = tt
-gives_told old new o (item.Record d) g = subst (λ (r : Option Record). IsSome r) (sym (ap (λ (p : Progress). p.shown) g.3)) refl
+gives_told old new o (item.Record d) g = subst (λ (r : Option Record). IsSome r) (sym (ap (λ (p : DecoderState). p.shown) g.3)) refl
 
 -- ---- an item ran
 
@@ -106,7 +106,7 @@ record_ran m k v h r before after ops answers errors reply last view header show
 none_added : (m : ℕ) (c : MasterCycles) → c ≡ pairs_added m c [] false
 none_added m c = λ i. record { made = c.made; opened = sym (append-nil c.opened) i }
 
-module _ (m : ℕ) (k : SessionState) (piece : List ℕ) (new : Progress) (reply : List ℕ) (empty : reply ≡ []) (s : SessionState) (before after : MasterCycles) where
+module _ (m : ℕ) (k : SessionState) (piece : List ℕ) (new : DecoderState) (reply : List ℕ) (empty : reply ≡ []) (s : SessionState) (before after : MasterCycles) where
   abbrev mid : SessionState
   mid = record k { progress = new; reply = reply }
 
@@ -147,8 +147,8 @@ module _ (m : ℕ) (k : SessionState) (piece : List ℕ) (new : Progress) (reply
   )
   given_by taken (item.Record d) t (answers, r) =
       let x : Record = t.gives.0 in
-      let header : new.header ≡ k.progress.header = ap (λ (p : Progress). p.header) t.gives.3 in
-      let shown : record_in new.shown ≡ x = ap (λ (p : Progress). record_in p.shown) t.gives.3 in
+      let header : new.header ≡ k.progress.header = ap (λ (p : DecoderState). p.header) t.gives.3 in
+      let shown : record_in new.shown ≡ x = ap (λ (p : DecoderState). record_in p.shown) t.gives.3 in
       let ops : item_ops k.slave.bus new.header (Recorded (record_in new.shown)) ≡ item_ops k.slave.bus k.progress.header (Recorded x) =
       λ i. item_ops k.slave.bus (header i) (Recorded (shown i)) in (
         t.taken,
@@ -177,8 +177,8 @@ module _ (m : ℕ) (k : SessionState) (piece : List ℕ) (new : Progress) (reply
       let x : Record = t.gives.0 in
       let p : List ℕ = k.progress.pending in
       let whole : p ++ piece ≡ (p ++ take taken piece) ++ drop taken piece = ap (λ (l : List ℕ). p ++ l) (sym (take-append-drop taken piece)) ∙ sym (append_assoc p (take taken piece) (drop taken piece)) in
-      let header : new.header ≡ k.progress.header = ap (λ (q : Progress). q.header) t.gives.3 in
-      let shown : record_in new.shown ≡ x = ap (λ (q : Progress). record_in q.shown) t.gives.3 in
+      let header : new.header ≡ k.progress.header = ap (λ (q : DecoderState). q.header) t.gives.3 in
+      let shown : record_in new.shown ≡ x = ap (λ (q : DecoderState). record_in q.shown) t.gives.3 in
       let asks : Asks before.opened (item_ops k.slave.bus k.progress.header (Recorded x)) (item_ends (Recorded x)) =
       subst (λ (q : Option Header). Asks before.opened (item_ops k.slave.bus q (Recorded x)) (item_ends (Recorded x))) header
       (subst (λ (y : Record). Asks before.opened (item_ops k.slave.bus new.header (Recorded y)) (item_ends (Recorded y))) shown r.asked) in
@@ -202,10 +202,10 @@ module _ (m : ℕ) (k : SessionState) (piece : List ℕ) (new : Progress) (reply
 abbrev codec_err : Malformed → Result Step Malformed
 codec_err f = Err f
 
-pub refuses : (old new : Progress) (piece : List ℕ) (f : Malformed) → old.fault ≡ None → Decodes old piece (Err f) new → Refuses old piece f new
+pub refuses : (old new : DecoderState) (piece : List ℕ) (f : Malformed) → old.fault ≡ None → Decodes old piece (Err f) new → Refuses old piece f new
 refuses old new piece f e d = subst (λ (q : Option Malformed). MatchOption q (Refuses old piece f new) (λ fault. (codec_err f ≡ Err fault) × (new ≡ old))) e d
 
-pub refused : (m : ℕ) (k : SessionState) (piece reply : List ℕ) (f : Malformed) (new : Progress) (before after : MasterCycles) → Refuses k.progress piece f new → reply ≡ [] → after ≡ cycle_ended m true before
+pub refused : (m : ℕ) (k : SessionState) (piece reply : List ℕ) (f : Malformed) (new : DecoderState) (before after : MasterCycles) → Refuses k.progress piece f new → reply ≡ [] → after ≡ cycle_ended m true before
     → Answers m k piece (record k { progress = new; reply = reply; ending = Some (end.Malformed f.place f.why) }) before after (Err (end.Malformed f.place f.why))
 refused m k piece reply f new before after r e cut = ((new, r), record { ending = refl; kept = (refl, refl, e); cut = cut })
 
@@ -258,11 +258,11 @@ malformed_by m old new piece before after (Err (end.Malformed at rule)) p why a 
       λ e.
           let place : at ≡ old.progress.start + p = cc e in
           let same : rule ≡ why = cc e in
-          let here : r.place.0 ≡ p = omega (arith, r.place.1, place) in
-          subst (λ (w : Why). IsBadOctet old.progress.sets old.progress.header o p w) same (subst (λ (n : ℕ). IsBadOctet old.progress.sets old.progress.header o n rule) here r.place.2),
+          let here : r.at.0 ≡ p = omega (arith, r.at.1, place) in
+          subst (λ (w : Why). IsBadOctet old.progress.sets old.progress.header o p w) same (subst (λ (n : ℕ). IsBadOctet old.progress.sets old.progress.header o n rule) here r.at.2),
       λ bad.
-          let one = one_bad_octet old.progress.sets old.progress.header o r.place.0 p rule why r.place.2 bad in
-          let place : at ≡ old.progress.start + p = r.place.1 ∙ ap (λ (n : ℕ). old.progress.start + n) one.0 in
+          let one = one_bad_octet old.progress.sets old.progress.header o r.at.0 p rule why r.at.2 bad in
+          let place : at ≡ old.progress.start + p = r.at.1 ∙ ap (λ (n : ℕ). old.progress.start + n) one.0 in
           λ i. answer_err (end.Malformed (place i) (one.1 i)),
     )
 

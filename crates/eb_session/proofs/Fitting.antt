@@ -4,7 +4,7 @@ use Rattle.std.specs.List.{All, flat_map}
 use Rattle.eb_base.specs.declared.width.Width.{Width}
 use Rattle.eb_codec.specs.declared.item.Header.{Header}
 use Rattle.eb_codec.specs.Form.{Form, zeroed, field}
-use Rattle.eb_codec.proofs.Zeroed.{zeroed-append, flat_map-append}
+use Rattle.eb_codec.proofs.ZeroedLemmas.{zeroed-append, flat_map-append}
 use Rattle.std.proofs.lemmas.List.{append_assoc, append-nil}
 use Rattle.std.proofs.lemmas.List.Elements.{All-nil, All-cons, All-append}
 use Rattle.wb_signals.specs.Request.{Request}

@@ -6,10 +6,10 @@ use Rattle.eb_base.specs.declared.width.Width.{Width}
 use Rattle.eb_base.specs.declared.width.Width.TheVariants.{W8, W16, W32, W64}
 use Rattle.eb_base.specs.declared.width.Widths.{Widths}
 use Rattle.eb_codec.specs.declared.item.Header.{Header}
-use Rattle.eb_codec.specs.Decoding.{Progress}
+use Rattle.eb_codec.specs.Decoding.{DecoderState}
 use Rattle.eb_codec.specs.Stream.{StreamItem, HaveWidths, Spells, SpellsAll, IsPartial, header_after, header_after_all}
 use Rattle.eb_codec.proofs.ItemLemmas.{size-ge}
-use Rattle.eb_codec.proofs.Completion.{is_partial}
+use Rattle.eb_codec.proofs.CompletionLemmas.{is_partial}
 use Rattle.eb_codec.proofs.StreamLemmas.{spells_one, spells_append, header_after_all-append}
 use Rattle.wb_signals.specs.Request.{Request}
 use Rattle.wb_signals.specs.declared.answer.Answer.{Answer}
@@ -178,16 +178,16 @@ goes_on m so old new taken before after x answers on ran =
       more,
       record {
         running = ran.others.1 ∙ on.running;
-        sets = ap (λ (p : Progress). p.sets) ran.progress ∙ on.sets ∙ ap (λ (s : Slave). sets_of s.bus) (sym ran.others.0);
+        sets = ap (λ (p : DecoderState). p.sets) ran.progress ∙ on.sets ∙ ap (λ (s : Slave). sets_of s.bus) (sym ran.others.0);
         front = (
           so.octets ++ taken,
-          sym (append-nil (so.octets ++ taken)) ∙ ap (λ (p : Progress). (so.octets ++ taken) ++ p.pending) (sym ran.progress),
+          sym (append-nil (so.octets ++ taken)) ∙ ap (λ (p : DecoderState). (so.octets ++ taken) ++ p.pending) (sym ran.progress),
           subst (λ (s : Slave). SpellsAll (sets_of s.bus) None (items ++ x ∷ []) (so.octets ++ taken)) (sym ran.others.0) spelled,
         );
         partial = subst (λ (s : Slave). IsPartial (sets_of s.bus) (header_after_all None (items ++ x ∷ [])) new.progress.pending) (sym ran.others.0)
-            (subst (λ (p : Progress). IsPartial (sets_of bus) (header_after_all None (items ++ x ∷ [])) p.pending) (sym ran.progress) (none_pends bus (header_after_all None (items ++ x ∷ []))));
-        start = ap (λ (p : Progress). p.start) ran.progress ∙ ap (λ (n : ℕ). n + length (old.progress.pending ++ taken)) on.start ∙ sym (length-append on.front.0 (old.progress.pending ++ taken)) ∙ ap length e;
-        header = ap (λ (p : Progress). p.header) ran.progress ∙ ap (λ (q : Option Header). header_after q x) h ∙ sym (header_after_all-append None items (x ∷ []));
+            (subst (λ (p : DecoderState). IsPartial (sets_of bus) (header_after_all None (items ++ x ∷ [])) p.pending) (sym ran.progress) (none_pends bus (header_after_all None (items ++ x ∷ []))));
+        start = ap (λ (p : DecoderState). p.start) ran.progress ∙ ap (λ (n : ℕ). n + length (old.progress.pending ++ taken)) on.start ∙ sym (length-append on.front.0 (old.progress.pending ++ taken)) ∙ ap length e;
+        header = ap (λ (p : DecoderState). p.header) ran.progress ∙ ap (λ (q : Option Header). header_after q x) h ∙ sym (header_after_all-append None items (x ∷ []));
         none_open = on.none_open;
         made = grow.made;
         mine = grow.mine;

@@ -13,7 +13,7 @@ use Rattle.eb_codec.specs.Form.{Fills, FitsRecord, probe_form, header_form, reco
 use Rattle.eb_codec.specs.Stream.{Probed, Headed, Recorded}
 use Rattle.eb_codec.proofs.FormLemmas.{length-Fills, length-fixed, length-padding}
 use Rattle.eb_codec.proofs.RecordLemmas.{length-record_form}
-use Rattle.eb_codec.proofs.Zeroed.{length-zeroed}
+use Rattle.eb_codec.proofs.ZeroedLemmas.{length-zeroed}
 use Rattle.wb_signals.specs.Cycles.{MasterCycles}
 use Rattle.wb_signals.specs.declared.answer.Answer.{Answer}
 use Rattle.eb_session.specs.declared.session.Fed.{Fed}

@@ -250,7 +250,7 @@ module _ (m : ℕ) (so : SoFar) (old : SessionState) (before : MasterCycles) (pi
   pub ends_for : (e : End) → EndsFor old piece before e → EndsBy old.slave (so.octets ++ piece) so.items e
   ends_for end.Clean h = elim h [ ]
   ends_for (end.Truncated n) h = elim h [ ]
-  ends_for (end.Malformed place why) (new, r) = refused place why r.place.0 r.place.1 r.place.2
+  ends_for (end.Malformed place why) (new, r) = refused place why r.at.0 r.at.1 r.at.2
   ends_for end.NoMemory h = unrun h
 
 pub fed_ends : FedEnds

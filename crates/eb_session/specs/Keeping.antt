@@ -5,7 +5,7 @@ use Rattle.eb_codec.specs.declared.item.Why.{Why}
 use Rattle.eb_codec.specs.declared.event.Item.{Item}
 use Rattle.eb_codec.specs.declared.event.Item.TheVariants as item
 use Rattle.eb_codec.specs.Form.{FitsProbe}
-use Rattle.eb_codec.specs.Decoding.{Progress, fresh, after_item, record_in, Refuses}
+use Rattle.eb_codec.specs.Decoding.{DecoderState, fresh, after_item, record_in, Refuses}
 use Rattle.eb_codec.specs.Stream.{StreamItem, Recorded, Spells, IsPartial, IsBadOctet}
 use Rattle.wb_signals.specs.Cycles.{MasterCycles, Asks, paired, pairs_added, cycle_ended}
 use Rattle.wb_signals.specs.declared.answer.Answer.{Answer}
@@ -21,7 +21,7 @@ use Rattle.eb_session.specs.Replies.{sets_of, item_reply, probe_reply, header_re
 -- ended, and how it ended. Whether a cycle is open its master tells.
 pub record SessionState : Type 0 where
   pub slave : Slave
-  pub progress : Progress
+  pub progress : DecoderState
   pub errors : ℕ
   pub reply : List ℕ
   pub ending : Option End
@@ -60,7 +60,7 @@ HasAsking old octets before = (r : Record) × (front rest : List ℕ) × (octets
 -- Why a piece ended a session: its decoder refused it, or the master had no memory for a whole record that asked it, of which
 -- nothing ran.
 abbrev pub EndsFor : SessionState → List ℕ → MasterCycles → End → Type 0
-EndsFor old piece before (end.Malformed place why) = (new : Progress) × Refuses old.progress piece (record { place = place; why = why }) new
+EndsFor old piece before (end.Malformed place why) = (new : DecoderState) × Refuses old.progress piece (record { place = place; why = why }) new
 EndsFor old piece before end.NoMemory = HasAsking old (old.progress.pending ++ piece) before
 EndsFor old piece before end.Clean = ⊥
 EndsFor old piece before (end.Truncated n) = ⊥
@@ -111,7 +111,7 @@ Finishes m old new before after answer = MatchOption old.ending
     (λ e. (answer ≡ e) × Stays old new before after)
 
 -- The decoder just gave this: a probe whose id fits its field, or a record, which it shows.
-abbrev pub Told : Item → Progress → Type 0
+abbrev pub Told : Item → DecoderState → Type 0
 Told item.NotYet p = Unit {0}
 Told (item.Probe probe) p = FitsProbe probe
 Told (item.Header h) p = Unit {0}

@@ -1,4 +1,4 @@
-use Rattle.eb_codec.proofs.Decoded.{decodes_record, decodes_header, decodes_probe}
+use Rattle.eb_codec.proofs.DecodedLemmas.{decodes_record, decodes_header, decodes_probe}
 use Rattle.eb_codec.proofs.laws.decoded_again.Goals as goal
 
 pub returns-clause-record_ : goal.returns-clause-record_

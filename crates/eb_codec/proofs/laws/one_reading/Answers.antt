@@ -1,5 +1,5 @@
-use Rattle.eb_codec.proofs.OneReading.{one_list_of_items, front_of_items, one_first_bad}
-use Rattle.eb_codec.proofs.Lowest.{lowest_rule}
+use Rattle.eb_codec.proofs.OneReadingLemmas.{one_list_of_items, front_of_items, one_first_bad}
+use Rattle.eb_codec.proofs.LowestLemmas.{lowest_rule}
 use Rattle.eb_codec.proofs.laws.one_reading.Goals as goal
 
 pub returns-clause-items : goal.returns-clause-items

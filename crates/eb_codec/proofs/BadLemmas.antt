@@ -10,7 +10,7 @@ use Rattle.eb_codec.specs.Rules.{broken}
 use Rattle.eb_codec.specs.Stream.{HaveWidths, BreaksNone, IsBadOctet}
 use Rattle.eb_codec.proofs.FieldLemmas.{IsBytes-take}
 use Rattle.eb_codec.proofs.ItemLemmas.{size-ge, broken_front, broken_later}
-use Rattle.eb_codec.proofs.Completion.{is_partial}
+use Rattle.eb_codec.proofs.CompletionLemmas.{is_partial}
 
 some_lt : (sets : Widths) (header : Option Header) (o : List ℕ) (k : ℕ) (why : Why) → broken sets header o k ≡ Some why → k < 4
 some_lt sets header o k why e = elim (cases_lt k 4) [ inl lt ↦ lt | inr le ↦ let n = broken_later sets header o k le in absurd cc ]

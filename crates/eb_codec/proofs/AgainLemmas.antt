@@ -14,12 +14,12 @@ use Rattle.eb_codec.specs.Stream.{StreamItem, Probed, Headed, Recorded, Spells, 
 use Rattle.eb_codec.specs.declared.item.Record.{Record}
 use Rattle.eb_codec.specs.declared.item.RecordHead.{RecordHead}
 use Rattle.eb_codec.specs.Rules.{broken}
-use Rattle.eb_codec.specs.Decoding.{Progress, told, Gives, TakesAll, Takes, IsPlaced, Refuses, Feeds, Shows, after_item, shown_of}
+use Rattle.eb_codec.specs.Decoding.{DecoderState, told, Gives, TakesAll, Takes, Stands, Refuses, Feeds, Shows, after_item, shown_of}
 use Rattle.eb_codec.specs.OneCall.{GivesSpelled, NotYetExactly, RefusesExactly}
 use Rattle.eb_codec.proofs.ItemLemmas.{one_spelling}
 use Rattle.eb_codec.proofs.RoomLemmas.{take-append-ge}
 use Rattle.eb_codec.proofs.StreamLemmas.{no_whole}
-use Rattle.eb_codec.proofs.Runs.{at_none, at_some, answer_ok, answer_err}
+use Rattle.eb_codec.proofs.RunLemmas.{at_none, at_some, answer_ok, answer_err}
 
 -- no octet of a spelling, nor one behind it, is the item's first bad one
 not_bad : (sets : Widths) (header : Option Header) (x : StreamItem) (o octets rest : List ℕ) (p : ℕ) (why : Why) → Spells sets header x octets → o ≡ octets ++ rest → IsBadOctet sets header o p why → ⊥
@@ -35,7 +35,7 @@ not_bad sets header x o octets rest p why s e bad =
     ]
 
 -- what an item that was given is
-gives_item : (old new : Progress) (octets : List ℕ) (i : Item) → Gives old octets i new → ((i ≡ item.NotYet) × IsPartial old.sets old.header octets) ⊎ ((y : StreamItem) × (i ≡ told y) × Spells old.sets old.header y octets)
+gives_item : (old new : DecoderState) (octets : List ℕ) (i : Item) → Gives old octets i new → ((i ≡ item.NotYet) × IsPartial old.sets old.header octets) ⊎ ((y : StreamItem) × (i ≡ told y) × Spells old.sets old.header y octets)
 gives_item old new octets item.NotYet g = inl (refl, g.0)
 gives_item old new octets (item.Probe p) g = inr (Probed p, refl, g.0)
 gives_item old new octets (item.Header h) g = inr (Headed h, refl, g.0)
@@ -47,7 +47,7 @@ taken_fits (item.Probe p) taken len t = t
 taken_fits (item.Header h) taken len t = t
 taken_fits (item.Record d) taken len t = t
 
-given_is : (old new : Progress) (piece octets rest : List ℕ) (step : Step) (x : StreamItem) → Takes old piece step new → Spells old.sets old.header x octets → old.pending ++ piece ≡ octets ++ rest
+given_is : (old new : DecoderState) (piece octets rest : List ℕ) (step : Step) (x : StreamItem) → Takes old piece step new → Spells old.sets old.header x octets → old.pending ++ piece ≡ octets ++ rest
     → (step.item ≡ told x) × (old.pending ++ take step.taken piece ≡ octets)
 given_is old new piece octets rest step x t s e =
     let o : List ℕ = old.pending ++ take step.taken piece in
@@ -63,7 +63,7 @@ given_is old new piece octets rest step x t s e =
     ]
 
 -- where the decoder stands after an item
-stands_after : (old new : Progress) (octets : List ℕ) (x : StreamItem) → Spells old.sets old.header x octets → Gives old octets (told x) new → new ≡ after_item old x octets
+stands_after : (old new : DecoderState) (octets : List ℕ) (x : StreamItem) → Spells old.sets old.header x octets → Gives old octets (told x) new → new ≡ after_item old x octets
 stands_after old new octets (Probed p) s g = g.1
 stands_after old new octets (Headed h) s g = g.1
 stands_after old new octets (Recorded r) s g =
@@ -79,7 +79,7 @@ bad_partial sets header o p why part bad =
     let again : o ++ part.1 ∷ part.2 ≡ take (p + 1) o ++ (drop (p + 1) o ++ part.1 ∷ part.2) = ap (λ (l : List ℕ). l ++ part.1 ∷ part.2) (sym (take-append-drop (p + 1) o)) ∙ append_assoc (take (p + 1) o) (drop (p + 1) o) (part.1 ∷ part.2) in
     bad.ends part.0 (drop (p + 1) o ++ part.1 ∷ part.2) (subst (Spells sets header part.0) again part.3)
 
-partial_step : (old new : Progress) (piece : List ℕ) (step : Step) → Takes old piece step new → IsPartial old.sets old.header (old.pending ++ piece) → step ≡ record { taken = length piece; item = item.NotYet }
+partial_step : (old new : DecoderState) (piece : List ℕ) (step : Step) → Takes old piece step new → IsPartial old.sets old.header (old.pending ++ piece) → step ≡ record { taken = length piece; item = item.NotYet }
 partial_step old new piece step t p =
     let o : List ℕ = old.pending ++ take step.taken piece in
     elim (gives_item old new o step.item t.gives) [
@@ -94,7 +94,7 @@ partial_step old new piece step t p =
 pub gives_spelled : GivesSpelled
 gives_spelled old new piece octets rest (Err fault) x n f s e lt =
     let g : Refuses old piece fault new = at_none old.fault (Refuses old piece fault new) (λ m. (answer_err fault ≡ Err m) × (new ≡ old)) n f in
-    absurd (not_bad old.sets old.header x (old.pending ++ piece) octets rest g.place.0 fault.why s e g.place.2)
+    absurd (not_bad old.sets old.header x (old.pending ++ piece) octets rest g.at.0 fault.why s e g.at.2)
 gives_spelled old new piece octets rest (Ok step) x n f s e lt =
     let t : Takes old piece step new = at_none old.fault (Takes old piece step new) (λ m. (answer_ok step ≡ Err m) × (new ≡ old)) n f in
     let i = given_is old new piece octets rest step x t s e in
@@ -107,7 +107,7 @@ gives_spelled old new piece octets rest (Ok step) x n f s e lt =
 pub not_yet_exactly : NotYetExactly
 not_yet_exactly old new piece (Err fault) n f =
     let g : Refuses old piece fault new = at_none old.fault (Refuses old piece fault new) (λ m. (answer_err fault ≡ Err m) × (new ≡ old)) n f in
-    (λ e. absurd cc, λ p. absurd (bad_partial old.sets old.header (old.pending ++ piece) g.place.0 fault.why p g.place.2))
+    (λ e. absurd cc, λ p. absurd (bad_partial old.sets old.header (old.pending ++ piece) g.at.0 fault.why p g.at.2))
 not_yet_exactly old new piece (Ok step) n f =
     let t : Takes old piece step new = at_none old.fault (Takes old piece step new) (λ m. (answer_ok step ≡ Err m) × (new ≡ old)) n f in (
       λ e.
@@ -117,51 +117,51 @@ not_yet_exactly old new piece (Ok step) n f =
       λ p. ap answer_ok (partial_step old new piece step t p),
     )
 
-given_place : (old new : Progress) (octets : List ℕ) (i : Item) → Gives old octets i new → new.start + length new.pending ≡ old.start + length octets
-given_place old new octets item.NotYet g = let a = ap (λ (z : Progress). z.start + length z.pending) g.1 in a
-given_place old new octets (item.Probe p) g = let a = ap (λ (z : Progress). z.start + length z.pending) g.1 in a ∙ add-zero (old.start + length octets)
-given_place old new octets (item.Header h) g = let a = ap (λ (z : Progress). z.start + length z.pending) g.1 in a ∙ add-zero (old.start + length octets)
-given_place old new octets (item.Record d) g = let a = ap (λ (z : Progress). z.start + length z.pending) g.3 in a ∙ add-zero (old.start + length octets)
+given_place : (old new : DecoderState) (octets : List ℕ) (i : Item) → Gives old octets i new → new.start + length new.pending ≡ old.start + length octets
+given_place old new octets item.NotYet g = let a = ap (λ (z : DecoderState). z.start + length z.pending) g.1 in a
+given_place old new octets (item.Probe p) g = let a = ap (λ (z : DecoderState). z.start + length z.pending) g.1 in a ∙ add-zero (old.start + length octets)
+given_place old new octets (item.Header h) g = let a = ap (λ (z : DecoderState). z.start + length z.pending) g.1 in a ∙ add-zero (old.start + length octets)
+given_place old new octets (item.Record d) g = let a = ap (λ (z : DecoderState). z.start + length z.pending) g.3 in a ∙ add-zero (old.start + length octets)
 
 cases_fault : (o : Option Malformed) → (o ≡ None) ⊎ ((m : Malformed) × (o ≡ Some m))
 cases_fault None = inl refl
 cases_fault (Some m) = inr (m, refl)
 
-ok_place : (old new : Progress) (piece : List ℕ) (step : Step) → Takes old piece step new → IsPlaced old new (length piece) step
-ok_place old new piece step t =
+ok_stands : (old new : DecoderState) (piece : List ℕ) (step : Step) → Takes old piece step new → Stands old new (length piece) step
+ok_stands old new piece step t =
     let fits = taken_fits step.item step.taken (length piece) t.taken in
     let e = given_place old new (old.pending ++ take step.taken piece) step.item t.gives in
-    record { within = fits; place = omega (arith, e, length-append old.pending (take step.taken piece), length-take step.taken piece); moves = t.moves }
+    record { within = fits; at = omega (arith, e, length-append old.pending (take step.taken piece), length-take step.taken piece); moves = t.moves }
 
 -- where the decoder stands after a call
-pub places : (old new : Progress) (piece : List ℕ) (answer : Result Step Malformed) → Feeds old piece answer new → MatchResult answer (IsPlaced old new (length piece)) (λ _. new.start + length new.pending ≤ old.start + length old.pending)
-places old new piece (Ok step) f = elim (cases_fault old.fault) [
-  | inl n ↦ ok_place old new piece step (at_none old.fault (Takes old piece step new) (λ m. (answer_ok step ≡ Err m) × (new ≡ old)) n f)
+pub stands : (old new : DecoderState) (piece : List ℕ) (answer : Result Step Malformed) → Feeds old piece answer new → MatchResult answer (Stands old new (length piece)) (λ _. new.start + length new.pending ≤ old.start + length old.pending)
+stands old new piece (Ok step) f = elim (cases_fault old.fault) [
+  | inl n ↦ ok_stands old new piece step (at_none old.fault (Takes old piece step new) (λ m. (answer_ok step ≡ Err m) × (new ≡ old)) n f)
   | inr m ↦ let g = at_some old.fault (Takes old piece step new) (λ fault. (answer_ok step ≡ Err fault) × (new ≡ old)) m.0 m.1 f in let e = g.0 in absurd cc
 ]
-places old new piece (Err fault) f = elim (cases_fault old.fault) [
+stands old new piece (Err fault) f = elim (cases_fault old.fault) [
   | inl n ↦
       let g : Refuses old piece fault new = at_none old.fault (Refuses old piece fault new) (λ m. (answer_err fault ≡ Err m) × (new ≡ old)) n f in
-      let e = ap (λ (z : Progress). z.start + length z.pending) g.after in
+      let e = ap (λ (z : DecoderState). z.start + length z.pending) g.after in
       omega arith
   | inr m ↦
       let g = at_some old.fault (Refuses old piece fault new) (λ m'. (answer_err fault ≡ Err m') × (new ≡ old)) m.0 m.1 f in
-      let e = ap (λ (z : Progress). z.start + length z.pending) g.1 in
+      let e = ap (λ (z : DecoderState). z.start + length z.pending) g.1 in
       omega arith
 ]
 
-bounded_by : (old new : Progress) (len : ℕ) (answer : Result Step Malformed) → MatchResult answer (IsPlaced old new len) (λ _. new.start + length new.pending ≤ old.start + length old.pending) → new.start + length new.pending ≤ old.start + length old.pending + len
-bounded_by old new len (Ok step) p = omega (arith, p.place, p.within)
+bounded_by : (old new : DecoderState) (len : ℕ) (answer : Result Step Malformed) → MatchResult answer (Stands old new len) (λ _. new.start + length new.pending ≤ old.start + length old.pending) → new.start + length new.pending ≤ old.start + length old.pending + len
+bounded_by old new len (Ok step) p = omega (arith, p.at, p.within)
 bounded_by old new len (Err fault) p = omega arith
 
-pub bounded : (old new : Progress) (piece : List ℕ) (answer : Result Step Malformed) → Feeds old piece answer new → new.start + length new.pending ≤ old.start + length old.pending + length piece
-bounded old new piece answer f = bounded_by old new (length piece) answer (places old new piece answer f)
+pub bounded : (old new : DecoderState) (piece : List ℕ) (answer : Result Step Malformed) → Feeds old piece answer new → new.start + length new.pending ≤ old.start + length old.pending + length piece
+bounded old new piece answer f = bounded_by old new (length piece) answer (stands old new piece answer f)
 
 same_fault : (a b : Malformed) → a.place ≡ b.place → a.why ≡ b.why → a ≡ b
 same_fault a b p q = λ i. record { place = p i; why = q i }
 
 -- an item that was given has no bad octet
-given_not_bad : (old new : Progress) (piece : List ℕ) (step : Step) (p : ℕ) (why : Why) → Takes old piece step new → IsBadOctet old.sets old.header (old.pending ++ piece) p why → ⊥
+given_not_bad : (old new : DecoderState) (piece : List ℕ) (step : Step) (p : ℕ) (why : Why) → Takes old piece step new → IsBadOctet old.sets old.header (old.pending ++ piece) p why → ⊥
 given_not_bad old new piece step p why t b =
     let o : List ℕ = old.pending ++ take step.taken piece in
     elim (gives_item old new o step.item t.gives) [
@@ -179,7 +179,7 @@ lengths : (sets : Widths) (header : Option Header) (o : List ℕ) (r : Record) �
 lengths sets None o r s = elim s.form [ ]
 lengths sets (Some h) o r s = (s.form.0.writes, s.form.0.reads)
 
-shown_lengths : (old : Progress) (o : List ℕ) (r : Record) (d : RecordHead) → r.head ≡ d → Spells old.sets old.header (Recorded r) o → (length r.values ≡ d.writes) × (length r.addresses ≡ d.reads)
+shown_lengths : (old : DecoderState) (o : List ℕ) (r : Record) (d : RecordHead) → r.head ≡ d → Spells old.sets old.header (Recorded r) o → (length r.values ≡ d.writes) × (length r.addresses ≡ d.reads)
 shown_lengths old o r d e s =
     let l = lengths old.sets old.header o r s in
     (l.0 ∙ ap (λ (z : RecordHead). z.writes) e, l.1 ∙ ap (λ (z : RecordHead). z.reads) e)
@@ -213,11 +213,11 @@ refuses_exactly old new piece (Err fault) p why n f =
           let same : fault ≡ record { place = old.start + p; why = why } = cc in
           let place : fault.place ≡ old.start + p = ap (λ (m : Malformed). m.place) same in
           let rule : fault.why ≡ why = ap (λ (m : Malformed). m.why) same in
-          let here : g.place.0 ≡ p = omega (arith, g.place.1, place) in
-          subst (λ (w : Why). IsBadOctet old.sets old.header o p w) rule (subst (λ (k : ℕ). IsBadOctet old.sets old.header o k fault.why) here g.place.2),
+          let here : g.at.0 ≡ p = omega (arith, g.at.1, place) in
+          subst (λ (w : Why). IsBadOctet old.sets old.header o p w) rule (subst (λ (k : ℕ). IsBadOctet old.sets old.header o k fault.why) here g.at.2),
       λ b.
-          let one = one_bad_octet old.sets old.header o g.place.0 p fault.why why g.place.2 b in
-          let place : fault.place ≡ old.start + p = g.place.1 ∙ ap (λ (k : ℕ). old.start + k) one.0 in
+          let one = one_bad_octet old.sets old.header o g.at.0 p fault.why why g.at.2 b in
+          let place : fault.place ≡ old.start + p = g.at.1 ∙ ap (λ (k : ℕ). old.start + k) one.0 in
           ap answer_err (same_fault fault (record { place = old.start + p; why = why }) place one.1),
     )
 refuses_exactly old new piece (Ok step) p why n f =
@@ -227,16 +227,16 @@ refuses_exactly old new piece (Ok step) p why n f =
     )
 
 -- what is shown after a step
-shows_given : (old new : Progress) (octets : List ℕ) (i : Item) → Gives old octets i new → Shows i new
-shows_given old new octets item.NotYet g = ap (λ (z : Progress). z.shown) g.1
-shows_given old new octets (item.Probe p) g = ap (λ (z : Progress). z.shown) g.1
-shows_given old new octets (item.Header h) g = ap (λ (z : Progress). z.shown) g.1
+shows_given : (old new : DecoderState) (octets : List ℕ) (i : Item) → Gives old octets i new → Shows i new
+shows_given old new octets item.NotYet g = ap (λ (z : DecoderState). z.shown) g.1
+shows_given old new octets (item.Probe p) g = ap (λ (z : DecoderState). z.shown) g.1
+shows_given old new octets (item.Header h) g = ap (λ (z : DecoderState). z.shown) g.1
 shows_given old new octets (item.Record d) g =
-    let e : new.shown ≡ Some g.0 = ap (λ (z : Progress). z.shown) g.3 in
+    let e : new.shown ≡ Some g.0 = ap (λ (z : DecoderState). z.shown) g.3 in
     let l = shown_lengths old octets g.0 d g.1 g.2 in
     rw e (refl, g.1, l.0, l.1)
 
-pub shows : (old new : Progress) (piece : List ℕ) (answer : Result Step Malformed) → Feeds old piece answer new → IfOk answer (λ step. Shows step.item new)
+pub shows : (old new : DecoderState) (piece : List ℕ) (answer : Result Step Malformed) → Feeds old piece answer new → IfOk answer (λ step. Shows step.item new)
 shows old new piece (Ok step) f = elim (cases_fault old.fault) [
   | inl n ↦ shows_given old new (old.pending ++ take step.taken piece) step.item (at_none old.fault (Takes old piece step new) (λ m. (answer_ok step ≡ Err m) × (new ≡ old)) n f).gives
   | inr m ↦ let g = at_some old.fault (Takes old piece step new) (λ fault. (answer_ok step ≡ Err fault) × (new ≡ old)) m.0 m.1 f in let e = g.0 in absurd cc

@@ -6,19 +6,19 @@ use Rattle.eb_codec.specs.declared.event.Malformed.{Malformed}
 use Rattle.eb_codec.specs.declared.event.Step.{Step}
 use Rattle.eb_codec.specs.Form.{zeroed, probe_form, header_form, record_form}
 use Rattle.eb_codec.specs.Stream.{StreamItem, Probed, Headed, Recorded, Spells}
-use Rattle.eb_codec.specs.Decoding.{Progress, told, Feeds}
+use Rattle.eb_codec.specs.Decoding.{DecoderState, told, Feeds}
 use Rattle.eb_codec.specs.Encoded.{Awaits, GivesOnly, DecodesRecord, DecodesHeader, DecodesProbe}
 use Rattle.eb_codec.proofs.ItemLemmas.{form_read, size-ge}
-use Rattle.eb_codec.proofs.Runs.{answer_ok}
-use Rattle.eb_codec.proofs.Again.{gives_spelled}
-use Rattle.eb_codec.proofs.Encoded.{encoded_spells, encoded_header_spells, encoded_probe_spells}
+use Rattle.eb_codec.proofs.RunLemmas.{answer_ok}
+use Rattle.eb_codec.proofs.AgainLemmas.{gives_spelled}
+use Rattle.eb_codec.proofs.EncodedLemmas.{encoded_spells, encoded_header_spells, encoded_probe_spells}
 
 -- an item takes four octets at least
 pub spelled-ge : (sets : Widths) (header : Option Header) (x : StreamItem) (o : List ℕ) → Spells sets header x o → 4 ≤ length o
 spelled-ge sets header x o s = let e = (form_read header x o s.form).1 in omega (arith, size-ge header o)
 
 -- what is spelled is given where nothing pends
-pub gives_only : (old new : Progress) (header : Option Header) (x : StreamItem) (octets rest : List ℕ) (answer : Result Step Malformed) → Awaits old header → Spells old.sets header x octets → Feeds old (octets ++ rest) answer new → GivesOnly old x octets answer new
+pub gives_only : (old new : DecoderState) (header : Option Header) (x : StreamItem) (octets rest : List ℕ) (answer : Result Step Malformed) → Awaits old header → Spells old.sets header x octets → Feeds old (octets ++ rest) answer new → GivesOnly old x octets answer new
 gives_only old new header x octets rest answer a s f =
     let s' : Spells old.sets old.header x octets = subst (λ (h : Option Header). Spells old.sets h x octets) (sym a.header_is) s in
     let len : length old.pending ≡ 0 = ap length a.nothing in

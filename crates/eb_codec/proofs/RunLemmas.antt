@@ -11,10 +11,10 @@ use Rattle.eb_codec.specs.declared.event.Step.{Step}
 use Rattle.eb_codec.specs.declared.event.Item.{Item}
 use Rattle.eb_codec.specs.declared.event.Item.TheVariants as item
 use Rattle.eb_codec.specs.Stream.{HaveWidths, StreamItem, Probed, Headed, Recorded, Spells, SpellsAll, IsPartial, IsFirstBad, IsBadOctet, header_after, header_after_all}
-use Rattle.eb_codec.specs.Decoding.{Progress, fresh, told, Gives, Takes, Refuses}
+use Rattle.eb_codec.specs.Decoding.{DecoderState, fresh, told, Gives, Takes, Refuses}
 use Rattle.eb_codec.specs.AnyPieces.{Call, Runs, all_taken, item_told, items_told, Reached, GivesItems, RefusesFirstBad, NoneBad}
 use Rattle.eb_codec.proofs.ItemLemmas.{size-ge}
-use Rattle.eb_codec.proofs.Completion.{is_partial}
+use Rattle.eb_codec.proofs.CompletionLemmas.{is_partial}
 use Rattle.eb_codec.proofs.StreamLemmas.{spells_one, spells_append, header_after_all-append, longest, first_bad}
 
 abbrev pub answer_ok : Step → Result Step Malformed
@@ -31,7 +31,7 @@ pub reached_fresh : (sets : Widths) → HaveWidths sets → Reached sets [] [] [
 reached_fresh sets have = record { sets_is = refl; header_is = refl; whole = refl; spelled = refl; start_is = refl; partial = nothing_partial sets None have }
 
 -- one more item
-pub with_item : (sets : Widths) (octets : List ℕ) (items : List StreamItem) (front : List ℕ) (p : Progress) (x : StreamItem) (taken : List ℕ) (shown : Option Record) → HaveWidths sets → Reached sets octets items front p → Spells p.sets p.header x (p.pending ++ taken)
+pub with_item : (sets : Widths) (octets : List ℕ) (items : List StreamItem) (front : List ℕ) (p : DecoderState) (x : StreamItem) (taken : List ℕ) (shown : Option Record) → HaveWidths sets → Reached sets octets items front p → Spells p.sets p.header x (p.pending ++ taken)
     → Reached sets (octets ++ taken) (items ++ x ∷ []) (front ++ (p.pending ++ taken)) (record p { header = header_after p.header x; start = p.start + length (p.pending ++ taken); pending = []; shown = shown })
 with_item sets octets items front p x taken shown have h s =
     let s' : Spells sets (header_after_all None items) x (p.pending ++ taken) = subst (λ (g : Option Header). Spells sets g x (p.pending ++ taken)) h.header_is (subst (λ (z : Widths). Spells z p.header x (p.pending ++ taken)) h.sets_is s) in
@@ -44,7 +44,7 @@ with_item sets octets items front p x taken shown have h s =
       partial = nothing_partial sets (header_after p.header x) have;
     }
 
-pub with_more : (sets : Widths) (octets : List ℕ) (items : List StreamItem) (front : List ℕ) (p : Progress) (taken : List ℕ) → Reached sets octets items front p → IsPartial p.sets p.header (p.pending ++ taken)
+pub with_more : (sets : Widths) (octets : List ℕ) (items : List StreamItem) (front : List ℕ) (p : DecoderState) (taken : List ℕ) → Reached sets octets items front p → IsPartial p.sets p.header (p.pending ++ taken)
     → Reached sets (octets ++ taken) items front (record p { pending = p.pending ++ taken; shown = None })
 with_more sets octets items front p taken h s = record {
   sets_is = h.sets_is;
@@ -56,23 +56,23 @@ with_more sets octets items front p taken h s = record {
 }
 
 -- what a call adds
-pub record Adds (sets : Widths) (octets : List ℕ) (items : List StreamItem) (q : Progress) (said : List Item) : Type 0 where
+pub record Adds (sets : Widths) (octets : List ℕ) (items : List StreamItem) (q : DecoderState) (said : List Item) : Type 0 where
   pub more : List StreamItem
   pub front : List ℕ
   pub reached : Reached sets octets (items ++ more) front q
   pub no_fault : q.fault ≡ None
   pub told_is : said ≡ map told more
 
-pub adds : (sets : Widths) (octets : List ℕ) (items : List StreamItem) (front : List ℕ) (p q : Progress) (taken : List ℕ) (i : Item) → HaveWidths sets → Reached sets octets items front p → p.fault ≡ None → Gives p (p.pending ++ taken) i q → Adds sets (octets ++ taken) items q (item_told i)
+pub adds : (sets : Widths) (octets : List ℕ) (items : List StreamItem) (front : List ℕ) (p q : DecoderState) (taken : List ℕ) (i : Item) → HaveWidths sets → Reached sets octets items front p → p.fault ≡ None → Gives p (p.pending ++ taken) i q → Adds sets (octets ++ taken) items q (item_told i)
 adds sets octets items front p q taken item.NotYet have h n g =
-    record { more = []; front = front; reached = subst (Reached sets (octets ++ taken) (items ++ []) front) (sym g.1) (subst (λ (l : List StreamItem). Reached sets (octets ++ taken) l front (record p { pending = p.pending ++ taken; shown = None })) (sym (append-nil items)) (with_more sets octets items front p taken h g.0)); no_fault = ap (λ (z : Progress). z.fault) g.1 ∙ n; told_is = refl }
+    record { more = []; front = front; reached = subst (Reached sets (octets ++ taken) (items ++ []) front) (sym g.1) (subst (λ (l : List StreamItem). Reached sets (octets ++ taken) l front (record p { pending = p.pending ++ taken; shown = None })) (sym (append-nil items)) (with_more sets octets items front p taken h g.0)); no_fault = ap (λ (z : DecoderState). z.fault) g.1 ∙ n; told_is = refl }
 adds sets octets items front p q taken (item.Probe x) have h n g =
-    record { more = Probed x ∷ []; front = front ++ (p.pending ++ taken); reached = subst (Reached sets (octets ++ taken) (items ++ Probed x ∷ []) (front ++ (p.pending ++ taken))) (sym g.1) (with_item sets octets items front p (Probed x) taken None have h g.0); no_fault = ap (λ (z : Progress). z.fault) g.1 ∙ n; told_is = refl }
+    record { more = Probed x ∷ []; front = front ++ (p.pending ++ taken); reached = subst (Reached sets (octets ++ taken) (items ++ Probed x ∷ []) (front ++ (p.pending ++ taken))) (sym g.1) (with_item sets octets items front p (Probed x) taken None have h g.0); no_fault = ap (λ (z : DecoderState). z.fault) g.1 ∙ n; told_is = refl }
 adds sets octets items front p q taken (item.Header x) have h n g =
-    record { more = Headed x ∷ []; front = front ++ (p.pending ++ taken); reached = subst (Reached sets (octets ++ taken) (items ++ Headed x ∷ []) (front ++ (p.pending ++ taken))) (sym g.1) (with_item sets octets items front p (Headed x) taken None have h g.0); no_fault = ap (λ (z : Progress). z.fault) g.1 ∙ n; told_is = refl }
+    record { more = Headed x ∷ []; front = front ++ (p.pending ++ taken); reached = subst (Reached sets (octets ++ taken) (items ++ Headed x ∷ []) (front ++ (p.pending ++ taken))) (sym g.1) (with_item sets octets items front p (Headed x) taken None have h g.0); no_fault = ap (λ (z : DecoderState). z.fault) g.1 ∙ n; told_is = refl }
 adds sets octets items front p q taken (item.Record d) have h n g =
     let x : StreamItem = Recorded g.0 in
-    record { more = x ∷ []; front = front ++ (p.pending ++ taken); reached = subst (Reached sets (octets ++ taken) (items ++ x ∷ []) (front ++ (p.pending ++ taken))) (sym g.3) (with_item sets octets items front p x taken (Some g.0) have h g.2); no_fault = ap (λ (z : Progress). z.fault) g.3 ∙ n; told_is = ap (λ (z : RecordHead). item.Record z ∷ []) (sym g.1) }
+    record { more = x ∷ []; front = front ++ (p.pending ++ taken); reached = subst (Reached sets (octets ++ taken) (items ++ x ∷ []) (front ++ (p.pending ++ taken))) (sym g.3) (with_item sets octets items front p x taken (Some g.0) have h g.2); no_fault = ap (λ (z : DecoderState). z.fault) g.3 ∙ n; told_is = ap (λ (z : RecordHead). item.Record z ∷ []) (sym g.1) }
 
 pub at_none : (o : Option Malformed) (P : Type 0) (Q : Malformed → Type 0) → o ≡ None → MatchOption o P Q → P
 at_none None P Q e h = h
@@ -83,13 +83,13 @@ at_some None P Q m e h = absurd cc
 at_some (Some x) P Q m e h = let same : x ≡ m = cc in subst Q same h
 
 -- what was wrong once stays wrong
-pub stays_wrong : (calls : List Call) (p new : Progress) (m : Malformed) → p.fault ≡ Some m → Runs p calls new → new.fault ≡ Some m
-stays_wrong [] p new m e r = ap (λ (z : Progress). z.fault) (sym r) ∙ e
+pub stays_wrong : (calls : List Call) (p new : DecoderState) (m : Malformed) → p.fault ≡ Some m → Runs p calls new → new.fault ≡ Some m
+stays_wrong [] p new m e r = ap (λ (z : DecoderState). z.fault) (sym r) ∙ e
 stays_wrong ((piece, answer) ∷ calls) p new m e r =
     let f = at_some p.fault _ (λ fault. (answer ≡ Err fault) × (r.0 ≡ p)) m e r.1 in
-    stays_wrong calls r.0 new m (ap (λ (z : Progress). z.fault) f.1 ∙ e) r.2
+    stays_wrong calls r.0 new m (ap (λ (z : DecoderState). z.fault) f.1 ∙ e) r.2
 
-pub run : (sets : Widths) (calls : List Call) (octets : List ℕ) (items : List StreamItem) (front : List ℕ) (p new : Progress) → HaveWidths sets → Reached sets octets items front p → p.fault ≡ None → Runs p calls new → new.fault ≡ None → Adds sets (octets ++ all_taken calls) items new (items_told calls)
+pub run : (sets : Widths) (calls : List Call) (octets : List ℕ) (items : List StreamItem) (front : List ℕ) (p new : DecoderState) → HaveWidths sets → Reached sets octets items front p → p.fault ≡ None → Runs p calls new → new.fault ≡ None → Adds sets (octets ++ all_taken calls) items new (items_told calls)
 run sets [] octets items front p new have h n r n' =
     let one : Reached sets (octets ++ []) (items ++ []) front p = subst (λ (l : List ℕ). Reached sets l (items ++ []) front p) (sym (append-nil octets)) (subst (λ (l : List StreamItem). Reached sets octets l front p) (sym (append-nil items)) h) in
     record { more = []; front = front; reached = subst (Reached sets (octets ++ []) (items ++ []) front) r one; no_fault = n'; told_is = refl }
@@ -104,7 +104,7 @@ run sets ((piece, Ok step) ∷ calls) octets items front p new have h n r n' =
     record { more = a.more ++ b.more; front = b.front; reached = one; no_fault = n'; told_is = said }
 run sets ((piece, Err fault) ∷ calls) octets items front p new have h n r n' =
     let f : Refuses p piece fault r.0 = at_none p.fault (Refuses p piece fault r.0) (λ m. (answer_err fault ≡ Err m) × (r.0 ≡ p)) n r.1 in
-    let e : new.fault ≡ Some fault = stays_wrong calls r.0 new fault (ap (λ (z : Progress). z.fault) f.after) r.2 in
+    let e : new.fault ≡ Some fault = stays_wrong calls r.0 new fault (ap (λ (z : DecoderState). z.fault) f.after) r.2 in
     absurd cc
 
 pub gives_items : GivesItems
@@ -119,12 +119,12 @@ refuses_first_bad sets calls mid new piece fault have r n f =
     let a = run sets calls [] [] [] (fresh sets) mid have (reached_fresh sets have) refl r n in
     let h = a.reached in
     let g : Refuses mid piece fault new = at_none mid.fault (Refuses mid piece fault new) (λ m. (answer_err fault ≡ Err m) × (new ≡ mid)) n f in
-    let p : ℕ = g.place.0 in
+    let p : ℕ = g.at.0 in
     let o : List ℕ = mid.pending ++ piece in
-    let bad : IsBadOctet sets (header_after_all None a.more) o p fault.why = subst (λ (z : Option Header). IsBadOctet sets z o p fault.why) h.header_is (subst (λ (z : Widths). IsBadOctet z mid.header o p fault.why) h.sets_is g.place.2) in
+    let bad : IsBadOctet sets (header_after_all None a.more) o p fault.why = subst (λ (z : Option Header). IsBadOctet sets z o p fault.why) h.header_is (subst (λ (z : Widths). IsBadOctet z mid.header o p fault.why) h.sets_is g.at.2) in
     let here : IsFirstBad sets None (a.front ++ o) (length a.front + p) fault.why = first_bad sets None a.more a.front o p fault.why h.spelled bad in
     let octets : a.front ++ o ≡ all_taken calls ++ piece = sym (append_assoc a.front mid.pending piece) ∙ ap (λ (l : List ℕ). l ++ piece) (sym h.whole) in
-    let place : length a.front + p ≡ fault.place = ap (λ (m : ℕ). m + p) (sym h.start_is) ∙ sym g.place.1 in
+    let place : length a.front + p ≡ fault.place = ap (λ (m : ℕ). m + p) (sym h.start_is) ∙ sym g.at.1 in
     subst (λ (l : List ℕ). IsFirstBad sets None l fault.place fault.why) octets (subst (λ (m : ℕ). IsFirstBad sets None (a.front ++ o) m fault.why) place here)
 
 pub none_bad : NoneBad

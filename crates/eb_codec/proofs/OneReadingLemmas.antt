@@ -9,7 +9,7 @@ use Rattle.eb_codec.specs.Rules.{broken}
 use Rattle.eb_codec.specs.Stream.{StreamItem, SpellsAll, IsFirstBad, header_after, header_after_all}
 use Rattle.eb_codec.specs.OneReading.{OneListOfItems, FrontOfItems, OneFirstBad}
 use Rattle.eb_codec.proofs.ItemLemmas.{one_spelling, broken_later}
-use Rattle.eb_codec.proofs.Decoded.{spelled-ge}
+use Rattle.eb_codec.proofs.DecodedLemmas.{spelled-ge}
 
 -- what the one list has more than the other
 pub record Longer (sets : Widths) (header : Option Header) (xs ys : List StreamItem) (a b c d : List ℕ) : Type 0 where
