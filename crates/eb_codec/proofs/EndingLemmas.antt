@@ -10,7 +10,7 @@ use Rattle.eb_codec.specs.Rules.{broken}
 use Rattle.eb_codec.specs.Stream.{HaveWidths, StreamItem, BreaksNone, Spells, SpellsAll, AreItems, IsPartial, IsBadOctet, IsFirstBad, HasNoBad, header_after, header_after_all}
 use Rattle.eb_codec.specs.Reading.{size, item_in}
 use Rattle.eb_codec.specs.Filling.{IsBroken}
-use Rattle.eb_codec.specs.Endings.{HaveEnd}
+use Rattle.eb_codec.specs.OneReading.{HaveEnd}
 use Rattle.eb_codec.proofs.FieldLemmas.{IsBytes-take, IsBytes-drop}
 use Rattle.eb_codec.proofs.ItemLemmas.{size-ge, spells_item_in, one_spelling}
 use Rattle.eb_codec.proofs.CompletionLemmas.{is_partial}

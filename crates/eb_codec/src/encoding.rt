@@ -163,15 +163,8 @@ pub fn encode_header(header: &Header, out: &mut Vec<u8>) -> Result<(), NoMemory>
     } else {
         VERSION
     };
-    put(
-        out,
-        &[
-            MAGIC[0],
-            MAGIC[1],
-            version,
-            16 * header.address.bit() + header.port.bit(),
-        ],
-    );
+    let widths = 16 * header.address.bit() + header.port.bit();
+    put(out, &[MAGIC[0], MAGIC[1], version, widths]);
     put_zeros(out, unit - 4);
     Ok(())
 }
@@ -194,15 +187,8 @@ pub fn encode_probe(probe: &Probe, out: &mut Vec<u8>) -> Result<(), NoMemory>
     } else {
         VERSION + PF
     };
-    put(
-        out,
-        &[
-            MAGIC[0],
-            MAGIC[1],
-            version,
-            16 * probe.widths.addresses + probe.widths.ports,
-        ],
-    );
+    let widths = 16 * probe.widths.addresses + probe.widths.ports;
+    put(out, &[MAGIC[0], MAGIC[1], version, widths]);
     put(out, &probe.id.to_be_bytes());
     Ok(())
 }

@@ -21,15 +21,14 @@ pub struct RecordView<'a> {
 }
 
 impl<'a> Model for RecordView<'a> {
-    ghost use Rattle.eb_codec.specs.View.{RecordBehind};
+    ghost use Rattle.eb_codec.specs.Reading.{record_of};
+    ghost use Rattle.eb_codec.specs.View.{RecordBehind, IsRecord};
 
     ghost Value = { RecordBehind };
 
-    ghost use Rattle.eb_codec.specs.Viewing.{viewed, SpellsRecord};
+    ghost view = { λ v. record { header = v.header; item = record_of v.header v.octets.now } };
 
-    ghost view = { viewed };
-
-    ghost invariant = { SpellsRecord };
+    ghost invariant = { λ v. IsRecord v.header v.octets.now };
 }
 
 impl<'a> RecordView<'a> {
@@ -62,12 +61,8 @@ impl<'a> RecordView<'a> {
         ensures value { result ≡ self.now.item.write_base }
         ensures most { result < 256 ^ width_octets self.now.header.address }
     {
-        base_at(
-            self.header,
-            self.octets,
-            unit_len(self.header),
-            self.octets[2],
-        )
+        let part = unit_len(self.header);
+        base_at(self.header, self.octets, part, self.octets[2])
     }
 
     /// The value of number i, from 0.
@@ -76,14 +71,9 @@ impl<'a> RecordView<'a> {
         ensures value { result ≡ slice_index self.now.item.values i }
         ensures most { result < 256 ^ width_octets self.now.header.port }
     {
-        number_at(
-            self.header,
-            self.header.port,
-            self.octets,
-            unit_len(self.header),
-            self.octets[2],
-            i,
-        )
+        let (header, octets) = (self.header, self.octets);
+        let part = unit_len(header);
+        number_at(header, header.port, octets, part, octets[2], i)
     }
 
     /// The base address of the reply, 0 where nothing is read.
@@ -91,12 +81,8 @@ impl<'a> RecordView<'a> {
         ensures value { result ≡ self.now.item.return_base }
         ensures most { result < 256 ^ width_octets self.now.header.address }
     {
-        base_at(
-            self.header,
-            self.octets,
-            second_part(self.header, self.octets),
-            self.octets[3],
-        )
+        let part = second_part(self.header, self.octets);
+        base_at(self.header, self.octets, part, self.octets[3])
     }
 
     /// The address of number i, from 0, that is read.
@@ -105,14 +91,9 @@ impl<'a> RecordView<'a> {
         ensures value { result ≡ slice_index self.now.item.addresses i }
         ensures most { result < 256 ^ width_octets self.now.header.address }
     {
-        number_at(
-            self.header,
-            self.header.address,
-            self.octets,
-            second_part(self.header, self.octets),
-            self.octets[3],
-            i,
-        )
+        let (header, octets) = (self.header, self.octets);
+        let part = second_part(header, octets);
+        number_at(header, header.address, octets, part, octets[3], i)
     }
 }
 

@@ -8,19 +8,19 @@ pub bounds-self-inside-2 : goal.bounds-self-inside-2
 bounds-self-inside-2 c = let v = views c.self.inside.header c.self.inside.octets.now c.args.self.now c.self.invariant c.self.view_is in omega (arith, v.long)
 
 pub base_at-requires : goal.base_at-requires
-base_at-requires c = let v = views c.self.inside.header c.self.inside.octets.now c.args.self.now c.self.invariant c.self.view_is in omega (arith, v.within, c.unit_len.ensures.value)
+base_at-requires c = let v = views c.self.inside.header c.self.inside.octets.now c.args.self.now c.self.invariant c.self.view_is in omega (arith, v.within, c.unit_len-part.ensures.value)
 
 pub returns-clause-value : goal.returns-clause-value
 returns-clause-value c =
     let h = c.self.inside.header in
     let o = c.self.inside.octets.now in
     let v = views c.self.inside.header c.self.inside.octets.now c.args.self.now c.self.invariant c.self.view_is in
-    at_base h o c.args.self.now.item.write_base (get_or o 2 0) (unit_octets h) c.unit_len.result c.base_at.result v.write_base c.unit_len.ensures.value c.base_at.ensures
+    at_base h o c.args.self.now.item.write_base (get_or o 2 0) (unit_octets h) c.unit_len-part.result c.base_at.result v.write_base c.unit_len-part.ensures.value c.base_at.ensures
 
 pub returns-clause-most : goal.returns-clause-most
 returns-clause-most c =
     let h = c.self.inside.header in
     let o = c.self.inside.octets.now in
     let v = views c.self.inside.header c.self.inside.octets.now c.args.self.now c.self.invariant c.self.view_is in
-    let e : c.base_at.result ≡ c.args.self.now.item.write_base = at_base h o c.args.self.now.item.write_base (get_or o 2 0) (unit_octets h) c.unit_len.result c.base_at.result v.write_base c.unit_len.ensures.value c.base_at.ensures in
+    let e : c.base_at.result ≡ c.args.self.now.item.write_base = at_base h o c.args.self.now.item.write_base (get_or o 2 0) (unit_octets h) c.unit_len-part.result c.base_at.result v.write_base c.unit_len-part.ensures.value c.base_at.ensures in
     subst (λ (n : ℕ). n < 256 ^ octets c.args.self.now.header.address) (sym e) v.fits.write_base
