@@ -3,6 +3,7 @@ use Rattle.std.proofs.Common.{◌≡◌, ℕ, zero, suc, ◌+◌, ◌-◌, ◌<�
 use Rattle.std.proofs.lemmas.List.{append-nil, append_assoc, take_at}
 use Rattle.std.specs.List.{flat_map}
 use Rattle.eb_base.specs.declared.width.Width.{Width}
+use Rattle.eb_codec.specs.declared.flags.TheConstants.{RCA}
 use Rattle.eb_codec.specs.declared.item.Header.{Header}
 use Rattle.eb_codec.specs.declared.item.Record.{Record}
 use Rattle.eb_codec.specs.declared.item.RecordHead.{RecordHead}
@@ -45,7 +46,7 @@ upto_same zero f g same = refl
 upto_same (suc n) f g same = ap (λ l. l ++ f n ∷ []) (upto_same n f g same) ∙ ap (λ x. upto n g ++ x ∷ []) (same n)
 
 -- where there is no operation, no answer is in the reply
-none_by : (s : Slave) (h : Header) (r : Record) (answers : List Answer) (e : ℕ) (b : Bool) → has r.head.flags 0x40 ≡ b → bus_reads r ≡ 0
+none_by : (s : Slave) (h : Header) (r : Record) (answers : List Answer) (e : ℕ) (b : Bool) → has r.head.flags RCA ≡ b → bus_reads r ≡ 0
     → record_reply s h r answers e ≡ record_reply s h r [] e
 none_by s h r answers e true is n =
     let same : upto r.head.reads (read_word s h r answers e) ≡ upto r.head.reads (read_word s h r [] e) = upto_same r.head.reads (read_word s h r answers e) (read_word s h r [] e) (λ i. rw is refl) in
@@ -60,7 +61,7 @@ pub reply_same : (bus : Width) (s : Slave) (h : Header) (r : Record) (ops : List
 reply_same bus s h r (x ∷ ops) answers e is = refl
 reply_same bus s h r [] answers e is =
     let n : 0 ≡ bus_writes r + bus_reads r = ap length is ∙ length-record_ops bus h r in
-    none_by s h r answers e (has r.head.flags 0x40) refl (omega (arith, n))
+    none_by s h r answers e (has r.head.flags RCA) refl (omega (arith, n))
 
 step : (start : List ℕ) (f : Form) (x : List ℕ) (g : Form) → x ≡ zeroed g → (start ++ zeroed f) ++ x ≡ start ++ zeroed (f ++ g)
 step start f x g e = append_assoc start (zeroed f) x ∙ ap (λ (l : List ℕ). start ++ (zeroed f ++ l)) e ∙ ap (λ (l : List ℕ). start ++ l) (sym (zeroed-append f g))

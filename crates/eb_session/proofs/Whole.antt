@@ -8,7 +8,7 @@ use Rattle.eb_base.specs.declared.width.Widths.{Widths}
 use Rattle.eb_codec.specs.declared.item.Header.{Header}
 use Rattle.eb_codec.specs.declared.item.Record.{Record}
 use Rattle.eb_codec.specs.declared.item.Why.{Why}
-use Rattle.eb_codec.specs.Stream.{StreamItem, Recorded, Spells, SpellsAll, IsPartial, AreItems, IsFirstBad, IsBadOctet, header_after, header_after_all}
+use Rattle.eb_codec.specs.Stream.{StreamItem, Recorded, Spells, SpellsAll, IsPartial, AreItems, IsFirstBad, IsBadOctet, header_after, header_after_all, HasNoBad}
 use Rattle.eb_codec.proofs.ItemLemmas.{one_spelling}
 use Rattle.eb_codec.proofs.StreamLemmas.{spells_one, spells_append, longest, first_bad}
 use Rattle.wb_signals.specs.Request.{Request}
@@ -23,7 +23,7 @@ use Rattle.eb_session.specs.Cycles.{Cycles, cycles_in, item_ops, item_ends, Fit}
 use Rattle.eb_session.specs.Configuration.{register}
 use Rattle.eb_session.specs.Replies.{sets_of, replies}
 use Rattle.eb_session.specs.Keeping.{SessionState, Waits, Closed, EndsFor, HasAsking, Answers, FedItem, Stays, finished}
-use Rattle.eb_session.specs.Course.{SoFar, gone_on, answers_in, IsOn, Goes, HasNoBad, EndsBy, HasEnded, Begins, FedGoes, RunsAll, FinishEnds, FedEnds}
+use Rattle.eb_session.specs.Course.{SoFar, gone_on, answers_in, IsOn, Goes, EndsBy, HasEnded, Begins, FedGoes, RunsAll, FinishEnds, FedEnds}
 use Rattle.eb_session.proofs.Fitting.{All-more}
 use Rattle.eb_session.proofs.Feeding.{bad_whole}
 use Rattle.eb_session.proofs.Going.{goes_on, given-append, none_pends}

@@ -4,7 +4,7 @@ use Rattle.eb_base.specs.declared.width.Widths.{Widths}
 use Rattle.eb_codec.specs.declared.item.Header.{Header}
 use Rattle.eb_codec.specs.declared.item.Record.{Record}
 use Rattle.eb_codec.specs.declared.item.Why.{Why}
-use Rattle.eb_codec.specs.Stream.{StreamItem, Recorded, Spells, SpellsAll, IsPartial, AreItems, IsFirstBad, header_after_all}
+use Rattle.eb_codec.specs.Stream.{StreamItem, Recorded, Spells, SpellsAll, IsPartial, AreItems, IsFirstBad, header_after_all, HasNoBad}
 use Rattle.wb_signals.specs.Cycles.{MasterCycles, Asks}
 use Rattle.wb_signals.specs.History.{Entry, marked, requests_of, answers_of, given}
 use Rattle.wb_signals.specs.declared.answer.Answer.{Answer}
@@ -56,10 +56,6 @@ pub record IsOn (m : ℕ) (so : SoFar) (state : SessionState) (now : MasterCycle
 abbrev pub Goes : ℕ → SessionState → MasterCycles → List ℕ → List ℕ → SessionState → MasterCycles → Type 0
 Goes m old before taken replied new after = (so : SoFar) → IsOn m so old before
     → (items : List StreamItem) × (entries : List Entry) × IsOn m (gone_on so taken items entries replied) new after
-
--- No octet is bad.
-abbrev pub HasNoBad : Widths → List ℕ → Type 0
-HasNoBad sets octets = (p : ℕ) (why : Why) → IsFirstBad sets None octets p why → ⊥
 
 -- How a stream ended of which these octets were read and these items ran: Clean and Truncated at the stream's end, all its
 -- items having run and no octet being bad; Malformed at the first bad octet, all items before it having run; NoMemory before

@@ -6,6 +6,7 @@ use Rattle.eb_base.specs.declared.width.Widths.{Widths}
 use Rattle.eb_base.specs.Width.{bit}
 use Rattle.eb_base.specs.Field.{octets_of}
 use Rattle.eb_base.specs.Lanes.{word_of}
+use Rattle.eb_codec.specs.declared.flags.TheConstants.{MAGIC, VERSION, NR, PR, BCA, RCA, RFF, CYC, WCA, WFF}
 use Rattle.eb_codec.specs.declared.item.Header.{Header}
 use Rattle.eb_codec.specs.declared.item.Probe.{Probe}
 use Rattle.eb_codec.specs.declared.item.Record.{Record}
@@ -31,16 +32,16 @@ answer_word port bus adr sel Err = 0
 answer_word port bus adr sel Rty = 0
 
 -- Word i of the reply to a record, whose operations were given these answers, `errors` being the register after them. A
--- read of the configuration space (RCA, 0x40) is no operation.
+-- read of the configuration space (RCA) is no operation.
 abbrev pub read_word : Slave → Header → Record → List Answer → ℕ → ℕ → ℕ
 read_word s h r answers errors i =
-    if has r.head.flags 0x40
+    if has r.head.flags RCA
     then config_word h.port s.root errors (slice_index r.addresses i) r.head.enable
     else answer_word h.port s.bus (slice_index r.addresses i) r.head.enable (slice_index_or answers (bus_writes r + i) Err)
 
--- The flags of the reply: WCA (0x04) where BCA (0x80) was set, WFF (0x02) where RFF (0x20) was set, and CYC (0x08) as it was.
+-- The flags of the reply: WCA where BCA was set, WFF where RFF was set, and CYC as it was.
 abbrev pub reply_flags : ℕ → ℕ
-reply_flags flags = cond (has flags 0x80) 0x04 0 + cond (has flags 0x20) 0x02 0 + cond (has flags 0x08) 0x08 0
+reply_flags flags = cond (has flags BCA) WCA 0 + cond (has flags RFF) WFF 0 + cond (has flags CYC) CYC 0
 
 -- The record that answers a record with these words: it writes them to the base return address.
 abbrev pub answering : Record → List ℕ → Record
@@ -59,11 +60,11 @@ record_reply s h r answers errors =
 
 -- A probe is answered with the slave's widths and the probe's id.
 abbrev pub probe_reply : Slave → Probe → List ℕ
-probe_reply s p = 0x4E ∷ 0x6F ∷ 0x16 ∷ (16 * (sets_of s.bus).addresses + (sets_of s.bus).ports) ∷ octets_of W32 p.id
+probe_reply s p = MAGIC ++ (VERSION + NR + PR) ∷ (16 * (sets_of s.bus).addresses + (sets_of s.bus).ports) ∷ octets_of W32 p.id
 
 -- A header is answered with its own widths, unless it asks for no reply. Padding is zero.
 abbrev pub header_reply : Header → List ℕ
-header_reply h = if h.no_reply then [] else (0x4E ∷ 0x6F ∷ 0x14 ∷ (16 * bit h.address + bit h.port) ∷ replicate (unit_octets h - 4) 0)
+header_reply h = if h.no_reply then [] else (MAGIC ++ (VERSION + NR) ∷ (16 * bit h.address + bit h.port) ∷ replicate (unit_octets h - 4) 0)
 
 -- The reply to an item whose operations were given these answers, `errors` being the register before them.
 abbrev pub item_reply : Slave → Option Header → StreamItem → List Answer → ℕ → List ℕ

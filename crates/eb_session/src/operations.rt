@@ -1,23 +1,16 @@
 //! The operations of a record.
 ghost use Rattle.std.specs.Prelude.{◌≡◌, ◌≢◌, ◌<◌, ◌≤◌, ◌+◌, ◌*◌, ◌%◌, ◌^◌, ◌++◌, ◌∷◌, [], false, if◌then◌else◌, vec_len, vec_capacity};
 ghost use Rattle.eb_base.specs.Width.{octets};
+ghost use Rattle.eb_codec.specs.declared.flags.TheConstants.{CYC, WFF};
 ghost use Rattle.eb_codec.specs.Rules.{has};
 ghost use Rattle.wb_signals.specs.Request.{placed};
 ghost use Rattle.wb_signals.specs.Cycles.{FitsBus, AllFitBus};
 ghost use Rattle.eb_session.specs.Operations.{write_at, read_at, record_ops, upto};
 
 use eb_base::{Width, place};
+use eb_codec::flags::{CYC, RCA, WCA, WFF};
 use eb_codec::{Header, RecordHead, RecordView};
 use wb_signals::Op;
-
-/// The writes are to configuration space.
-pub const WCA: u8 = 0x04;
-/// The reads are of configuration space.
-pub const RCA: u8 = 0x40;
-/// The cycle ends after the record.
-pub const CYC: u8 = 0x08;
-// Every write goes to the base address.
-const WFF: u8 = 0x02;
 
 // A number below that many octets.
 fn narrowed(width: Width, n: u64) -> u64
@@ -67,7 +60,7 @@ fn access(port: Width, bus: Width, write: bool, adr: u64, dat: u64, sel: u8) -> 
 // The address of a write.
 fn write_address(header: Header, flags: u8, base: u64, i: usize) -> u64
     requires few { i < 256 }
-    ensures value { result ≡ (if has flags 0x02 then base else (base + i * octets header.port) % 256 ^ octets header.address) }
+    ensures value { result ≡ (if has flags WFF then base else (base + i * octets header.port) % 256 ^ octets header.address) }
 {
     if flags & WFF != 0 {
         base
@@ -150,7 +143,7 @@ fn put_reads(bus: Width, view: &RecordView<'_>, count: usize, ops: &mut Vec<Op>)
 
 /// Whether a cycle ends after a record with this head.
 pub fn is_last(head: RecordHead) -> bool
-    ensures value { result ≡ has head.flags 0x08 }
+    ensures value { result ≡ has head.flags CYC }
 {
     head.flags & CYC != 0
 }

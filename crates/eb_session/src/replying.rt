@@ -8,19 +8,14 @@ ghost use Rattle.eb_session.specs.Operations.{bus_writes, bus_reads, upto};
 ghost use Rattle.eb_session.specs.Replies.{answer_word, read_word, record_reply, probe_reply, header_reply, reply_flags};
 
 use crate::configuration::config;
-use crate::operations::{CYC, RCA, WCA, on_bus};
+use crate::operations::on_bus;
 use crate::slave::Slave;
 use eb_base::{Width, word};
 use eb_codec::encoding::{put, put_field, put_zeros};
+use eb_codec::flags::{BCA, CYC, MAGIC, NR, PR, RCA, RFF, VERSION, WCA, WFF};
 use eb_codec::sizes::{trailing, unit_len};
 use eb_codec::{Header, Probe, RecordView};
 use wb_signals::{Answer, Master};
-
-const BCA: u8 = 0x80;
-
-const RFF: u8 = 0x20;
-
-const WFF: u8 = 0x02;
 
 // The flags of the reply to a record with these.
 fn flags_of(flags: u8) -> u8
@@ -123,7 +118,15 @@ pub fn put_probe(slave: Slave, probe: Probe, reply: &mut Vec<u8>)
     ensures len { vec_len reply.new ≡ vec_len reply.old + 8 }
     ensures room { vec_capacity reply.old ≤ vec_capacity reply.new }
 {
-    put(reply, &[0x4e, 0x6f, 0x16, 0xf0 + (2 * slave.bus.bit() - 1)]);
+    put(
+        reply,
+        &[
+            MAGIC[0],
+            MAGIC[1],
+            VERSION + NR + PR,
+            0xf0 + (2 * slave.bus.bit() - 1),
+        ],
+    );
     put(reply, &probe.id.to_be_bytes());
 }
 
@@ -140,9 +143,9 @@ pub fn put_header(header: Header, reply: &mut Vec<u8>)
     put(
         reply,
         &[
-            0x4e,
-            0x6f,
-            0x14,
+            MAGIC[0],
+            MAGIC[1],
+            VERSION + NR,
             16 * header.address.bit() + header.port.bit(),
         ],
     );

@@ -1,4 +1,5 @@
 use Rattle.std.proofs.Common.{◌≡◌, ℕ, List, [], ◌++◌, length, ap, ◌∙◌, arith}
+use Rattle.eb_codec.specs.declared.flags.TheConstants.{CYC}
 use Rattle.eb_codec.specs.declared.item.Header.{Header}
 use Rattle.eb_codec.specs.declared.item.Record.{Record}
 use Rattle.wb_signals.specs.declared.answer.Answer.{Answer}
@@ -34,6 +35,6 @@ returns-clause-ran g c =
     let reply : c.put_reply.new.reply.items ≡ record_reply s h r answers (register c.self.inside.errors answers) =
     c.put_reply.ensures.items ∙ ap (λ (l : List ℕ). l ++ record_reply s h r told c.shifted-self-inside.result) empty
     ∙ ap (λ (e : ℕ). record_reply s h r told e) errors ∙ reply_same s.bus s h r ops told (register c.self.inside.errors answers) is in
-    let last : c.is_last.result ≡ ends_cycle r = c.is_last.ensures.value ∙ ap (λ t. has t.flags 0x08) c.head.ensures.value in
+    let last : c.is_last.result ≡ ends_cycle r = c.is_last.ensures.value ∙ ap (λ t. has t.flags CYC) c.head.ensures.value in
     record_ran (g.M.Master.identity c.args.master.now).number (state_in c.self.inside) c.args.self.now h r (g.M.Master.cycles c.args.master.now) (g.M.Master.cycles c.run_ops.new.master) ops answers
     c.shifted-self-inside.result c.put_reply.new.reply.items c.is_last.result c.self.view_is c.record-record.ensures.header c.record-record.ensures.value is c.in_ok-run_ops.ensures.answers last c.in_ok-run_ops.ensures.ran errors reply
