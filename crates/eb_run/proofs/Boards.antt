@@ -3,10 +3,9 @@ use Rattle.std.proofs.Common.{◌≡◌, ℕ, List, [], ◌++◌, sym, ◌∙◌
 use Rattle.std.specs.Prelude.{All}
 use Rattle.eb_io.specs.Reading.{Reading}
 use Rattle.eb_io.specs.Writing.{Writing}
-use Rattle.wb_signals.specs.History.{Entry, IsLegal}
-use Rattle.eb_session.specs.Cycles.{Fit, given}
-use Rattle.eb_session.specs.Keeping.{cycles_of}
-use Rattle.eb_session.specs.Replies.{Slave}
+use Rattle.wb_signals.specs.History.{Entry, IsLegal, given}
+use Rattle.eb_session.specs.Cycles.{Fit}
+use Rattle.eb_session.specs.declared.slave.Slave.{Slave}
 use Rattle.eb_server.specs.Serving as serving
 use Rattle.eb_server.specs.declared.ending.Ending.{Ending}
 use Rattle.soc_machine.specs.Machine.{MachineState, wiring_of, built_with_ram}
@@ -18,7 +17,7 @@ use Rattle.eb_run.specs.declared.board.Board.{Board}
 -- The master was new, and its entries are a legal history.
 pub served_on : (s : Slave) (old new : PlainState) (source source' : Reading) (out out' : Writing) (e : Ending) → old ≡ new_plain old.began 0 → new.began ≡ old.began
     → IsLegal (wiring_of new.began) new.began.contents new.made
-    → serving.Served old.number s (cycles_of old.made old.opened) (cycles_of new.made new.opened) source source' out out' e
+    → serving.Served old.number s (record { made = old.made; opened = old.opened }) (record { made = new.made; opened = new.opened }) source source' out out' e
     → ServedOn (record { slave = s; wiring = wiring_of old.began; contents = old.began.contents }) source source' out out' new.made e
 served_on s old new source source' out out' e is_new began legal served =
     let none : old.made ≡ [] = ap (λ (p : PlainState). p.made) is_new in

@@ -7,7 +7,7 @@ use Rattle.eb_base.specs.declared.width.Width.TheVariants.{W8, W16, W32, W64}
 use Rattle.eb_io.specs.Reading.{Reading}
 use Rattle.eb_io.specs.Writing.{Writing, WritesAll}
 use Rattle.eb_io.specs.Outside.{Outside}
-use Rattle.eb_session.specs.Replies.{slave}
+use Rattle.eb_session.specs.declared.slave.Slave.{Slave}
 use Rattle.soc_desc.specs.Checks.{is_in}
 use Rattle.soc_desc.specs.Shape.{address, last_address}
 use Rattle.soc_desc.specs.Accepted.{all_of, is_product, is_width, item_fields, bus_fields, IsAccepted}
@@ -49,11 +49,14 @@ width_of d accepted =
     let last = and_parts (is_product b.product && is_width b.width) (is_in (last_address 4) b.last) sdb.0 in
     width_is b.width (and_parts (is_product b.product) (is_width b.width) last.0).1
 
+abbrev slave_of : Width → ℕ → Slave
+slave_of bus root = record { bus = bus; root = root }
+
 -- a board of the described machine, with the root at its ROM, is the described system
 pub system_is : (d : Description) (machine : MachineState) (b : Board) → IsAccepted d → wiring_of machine ≡ described_wiring d → machine.contents ≡ described_contents d
     → IsMade machine d.bus.sdb b → system_of b ≡ described_system d
 system_is d machine b accepted wired held made =
-    let same = made.slave_is ∙ ap (λ (w : Width). slave w d.bus.sdb) (sym (width_of d accepted)) in
+    let same = made.slave_is ∙ ap (λ (w : Width). slave_of w d.bus.sdb) (sym (width_of d accepted)) in
     let wiring = ap (λ (m : MachineState). wiring_of m) made.machine_is ∙ wired in
     let contents = ap (λ (m : MachineState). m.contents) made.machine_is ∙ held in
     λ i. record { slave = same i; wiring = wiring i; contents = contents i }

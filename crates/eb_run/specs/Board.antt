@@ -3,7 +3,6 @@ use Rattle.std.specs.Prelude.{◌≡◌, ℕ, ◌<◌, List, length}
 use Rattle.eb_base.specs.declared.width.Width.TheVariants.{W32}
 use Rattle.wb_signals.specs.History.{Entry}
 use Rattle.eb_session.specs.Keeping.{new_session}
-use Rattle.eb_session.specs.Replies.{slave}
 use Rattle.soc_machine.specs.Machine.{MachineState, wiring_of}
 use Rattle.soc_machine.specs.Plain.{new_plain}
 use Rattle.eb_run.specs.Streams.{System}
@@ -27,5 +26,5 @@ pub record IsNew (b : Board) : Type 0 where
 -- It was made of this machine and has its root table at this address.
 pub record IsMade (machine : MachineState) (root : ℕ) (b : Board) : Type 0 where
   pub fresh : IsNew b
-  pub slave_is : b.session.slave ≡ slave W32 root
+  pub slave_is : b.session.slave ≡ record { bus = W32; root = root }
   pub machine_is : b.master.began ≡ machine

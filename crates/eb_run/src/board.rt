@@ -6,7 +6,7 @@ ghost use Rattle.eb_run.specs.Board.{IsNew, IsMade, system_of, entries_of};
 use eb_base::{NoMemory, Width};
 use eb_io::{Sink, Source};
 use eb_server::{Ending, serve};
-use eb_session::Session;
+use eb_session::{Session, Slave};
 use soc_journal::Journal;
 use soc_machine::{Machine, PlainMaster};
 use std::alloc::Global;
@@ -27,7 +27,8 @@ impl Board {
     pub fn new(alloc: Global, machine: Machine, root: u64) -> Result<Board, NoMemory>
         ensures new { IfOk result (IsMade machine root) }
     {
-        let session = Session::new(alloc, Width::W32, root)?;
+        let bus = Width::W32;
+        let session = Session::new(alloc, Slave { bus, root })?;
         let Ok(room) = vec![in alloc; 0; ROOM] else {
             return Err(NoMemory);
         };

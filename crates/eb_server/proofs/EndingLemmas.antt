@@ -15,9 +15,9 @@ use Rattle.eb_codec.proofs.FieldLemmas.{IsBytes-take}
 use Rattle.eb_codec.proofs.OneReadingLemmas.{one_list_of_items, one_first_bad}
 use Rattle.eb_codec.proofs.EndingLemmas.{have_end}
 use Rattle.eb_codec.proofs.FrontLemmas.{no_bad_before, none_left, bad_of_more, bad_of_front}
-use Rattle.wb_signals.specs.History.{Entry}
-use Rattle.eb_session.specs.Cycles.{given}
-use Rattle.eb_session.specs.Replies.{Slave, sets_of}
+use Rattle.wb_signals.specs.History.{Entry, given}
+use Rattle.eb_session.specs.declared.slave.Slave.{Slave}
+use Rattle.eb_session.specs.Replies.{sets_of}
 use Rattle.eb_server.specs.declared.ending.Ending.{Ending}
 use Rattle.eb_server.specs.declared.ending.Ending.TheVariants as ending
 use Rattle.eb_server.specs.Serving.{most_octets, WasRead, HaveRun, WereAnswered, EndsAs}

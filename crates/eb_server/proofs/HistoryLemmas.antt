@@ -4,8 +4,7 @@ use Rattle.std.specs.List.{All}
 use Rattle.wb_signals.specs.Request.{Request}
 use Rattle.wb_signals.specs.Content.{Content}
 use Rattle.wb_signals.specs.Wiring.{Wiring}
-use Rattle.wb_signals.specs.History.{Entry, requests_of, cycle, contents_after, IsLegal}
-use Rattle.eb_session.specs.Cycles.{Group, marked, given}
+use Rattle.wb_signals.specs.History.{Entry, requests_of, cycle, contents_after, IsLegal, Group, marked, given}
 use Rattle.eb_session.specs.Replies.{replies}
 use Rattle.eb_server.specs.Laws.{OneReply}
 

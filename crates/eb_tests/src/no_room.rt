@@ -28,17 +28,14 @@ impl Master for NoRoom {
     ghost use Rattle.eb_base.specs.declared.width.Width.TheVariants.{W32};
     ghost use Rattle.wb_signals.specs.declared.answer.Answer.TheVariants.{Err};
 
-    ghost bus = { λ s. W32 };
-
-    ghost number = { λ s. 0 };
+    ghost cycles = { λ s. record {
+        made = if s.was_cut then record { master = 0; cut = true; pairs = record { request = record { write = false; adr = 0; dat = 0; sel = 1 }; answer = Err } ∷ [] } ∷ [] else [];
+        opened = if s.is_open then record { request = record { write = false; adr = 0; dat = 0; sel = 1 }; answer = Err } ∷ [] else [];
+    } };
 
     ghost Kept = { Unit {0} };
 
-    ghost kept = { λ s. tt };
-
-    ghost made = { λ s. if s.was_cut then record { master = 0; cut = true; pairs = record { request = record { write = false; adr = 0; dat = 0; sel = 1 }; answer = Err } ∷ [] } ∷ [] else [] };
-
-    ghost opened = { λ s. if s.is_open then record { request = record { write = false; adr = 0; dat = 0; sel = 1 }; answer = Err } ∷ [] else [] };
+    ghost identity = { λ s. record { bus = W32; number = 0; kept = tt } };
 
     ghost answered = { λ s. if s.is_open then Err ∷ [] else [] };
 

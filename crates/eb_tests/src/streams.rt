@@ -2,7 +2,7 @@ use crate::no_room::NoRoom;
 use eb_base::Width;
 use eb_io::{MemSink, MemSource};
 use eb_server::{Ending, serve};
-use eb_session::Session;
+use eb_session::{Session, Slave};
 use std::test::Fail;
 
 // A record for which the master has no memory: the reply to the header stands.
@@ -15,7 +15,8 @@ fn no_memory_for_a_record(rt: HostRuntime) -> Result<(), Fail> {
     ];
     let mut source = MemSource::new(Vec::from_slice(alloc, &octets)?, 1, Vec::new(alloc));
     let mut sink = MemSink::new(alloc, 64, 3, Vec::new(alloc))?;
-    let mut session = Session::new(alloc, Width::W32, 0).ok().ok_or("session")?;
+    let (bus, root) = (Width::W32, 0);
+    let mut session = Session::new(alloc, Slave { bus, root }).ok().ok_or("session")?;
     let mut master = NoRoom::new();
     let mut room = [0; 16];
     let ending = serve(
