@@ -132,7 +132,7 @@ no_bad sets items octets a rest is s q p why bad =
     bad.ends (items ++ q.0 ∷ []) (drop (p + 1) octets ++ more) (subst (SpellsAll sets None (items ++ q.0 ∷ [])) parts whole)
 
 -- no whole item is in front of a bad octet or holds it
-bad_whole : (sets : Widths) (header : Option Header) (y : StreamItem) (o c d : List ℕ) (p : ℕ) (why : Why) → IsBadOctet sets header o p why → Spells sets header y c → o ≡ c ++ d → ⊥
+pub bad_whole : (sets : Widths) (header : Option Header) (y : StreamItem) (o c d : List ℕ) (p : ℕ) (why : Why) → IsBadOctet sets header o p why → Spells sets header y c → o ≡ c ++ d → ⊥
 bad_whole sets header y o c d p why bad s e =
     elim (cases_lt p (length c)) [
       | inl holds ↦

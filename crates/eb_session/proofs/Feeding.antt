@@ -1,8 +1,7 @@
 -- What one call of feed does, by the item that the decoder gave.
-use Rattle.std.proofs.Common.{◌≡◌, ◌↔◌, ℕ, ◌+◌, ◌≤◌, Bool, true, false, List, [], ◌∷◌, ◌++◌, length, take, drop, ◌-◌, Option, Some, None, Result, Ok, Err, refl, sym, ap, ◌∙◌, subst, arith, inl, inr}
+use Rattle.std.proofs.Common.{◌≡◌, ◌↔◌, ℕ, ◌+◌, ◌≤◌, Bool, true, false, List, [], ◌∷◌, ◌++◌, length, take, drop, Option, Some, None, Result, Ok, Err, refl, sym, ap, ◌∙◌, subst, arith}
 use Rattle.std.specs.Prelude.{MatchOption, IfSome, IsSome}
-use Rattle.std.proofs.lemmas.Bool.{cases_lt}
-use Rattle.std.proofs.lemmas.List.{append-nil, append_assoc, take-append-drop, take-append-le, take_all}
+use Rattle.std.proofs.lemmas.List.{append-nil, append_assoc, take-append-drop, take_all}
 use Rattle.eb_base.specs.declared.width.Width.{Width}
 use Rattle.eb_base.specs.declared.width.Widths.{Widths}
 use Rattle.eb_base.specs.Width.{octets}
@@ -16,10 +15,9 @@ use Rattle.eb_codec.specs.declared.event.Item.{Item}
 use Rattle.eb_codec.specs.declared.event.Item.TheVariants as item
 use Rattle.eb_codec.specs.Decoding.{DecoderState, Takes, Gives, Refuses, record_in}
 use Rattle.eb_codec.specs.Decoding.{Feeds as Decodes}
-use Rattle.eb_codec.specs.Stream.{StreamItem, Probed, Headed, Recorded, Spells, IsPartial, IsBadOctet}
+use Rattle.eb_codec.specs.Stream.{Probed, Headed, Recorded, Spells, IsPartial, IsBadOctet}
 use Rattle.eb_codec.proofs.AgainLemmas.{one_bad_octet}
-use Rattle.eb_codec.proofs.RoomLemmas.{take-append-ge}
-use Rattle.eb_codec.proofs.StreamLemmas.{no_whole}
+use Rattle.eb_codec.proofs.EndingLemmas.{bad_whole}
 use Rattle.wb_signals.specs.Request.{Request}
 use Rattle.wb_signals.specs.Cycles.{MasterCycles, Asks, paired, pairs_added, cycle_ended}
 use Rattle.wb_signals.specs.declared.answer.Answer.{Answer}
@@ -217,20 +215,7 @@ answer_ok fed = Ok fed
 abbrev answer_err : End → Result Fed End
 answer_err e = Err e
 
--- no whole item is in front of a bad octet or holds it
-pub bad_whole : (sets : Widths) (header : Option Header) (y : StreamItem) (o c d : List ℕ) (p : ℕ) (why : Why) → IsBadOctet sets header o p why → Spells sets header y c → o ≡ c ++ d → ⊥
-bad_whole sets header y o c d p why bad s e =
-    elim (cases_lt p (length c)) [
-      | inl holds ↦
-          let le : p + 1 ≤ length c = omega arith in
-          let same : c ≡ take (p + 1) o ++ drop (p + 1) c = sym (take-append-drop (p + 1) c) ∙ ap (λ (l : List ℕ). l ++ drop (p + 1) c) (sym (take-append-le (p + 1) c d le) ∙ ap (take (p + 1)) (sym e)) in
-          bad.ends y (drop (p + 1) c) (subst (Spells sets header y) same s)
-      | inr before ↦
-          let same : take p o ≡ c ++ take (p - length c) d = ap (take p) e ∙ take-append-ge c d p before in
-          no_whole sets header y (take p o) c (take (p - length c) d) bad.before s same
-    ]
-
--- nor is one held by octets of which less than an item pends
+-- octets of which less than an item pends hold no bad one
 bad_part : (sets : Widths) (header : Option Header) (o : List ℕ) (p : ℕ) (why : Why) → IsBadOctet sets header o p why → IsPartial sets header o → ⊥
 bad_part sets header o p why bad q =
     let more : List ℕ = q.1 ∷ q.2 in

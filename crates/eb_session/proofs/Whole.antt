@@ -1,16 +1,16 @@
 -- Whole runs of a session.
-use Rattle.std.proofs.Common.{◌≡◌, ℕ, ◌+◌, ◌≤◌, Bool, true, false, List, [], ◌∷◌, ◌++◌, length, take, drop, Option, None, Result, Ok, Err, refl, sym, ap, ◌∙◌, subst, arith}
+use Rattle.std.proofs.Common.{◌≡◌, ℕ, ◌+◌, Bool, true, false, List, [], ◌∷◌, ◌++◌, length, take, Option, None, Result, Ok, Err, refl, sym, ap, ◌∙◌, subst, arith}
 use Rattle.std.specs.Prelude.{MatchOption}
 use Rattle.std.specs.List.{All}
-use Rattle.std.proofs.lemmas.List.{append_assoc, append-nil, map-append, take-append-drop, take_all}
+use Rattle.std.proofs.lemmas.List.{append_assoc, append-nil, map-append, take_all}
 use Rattle.std.proofs.lemmas.List.Elements.{All-nil}
 use Rattle.eb_base.specs.declared.width.Widths.{Widths}
 use Rattle.eb_codec.specs.declared.item.Header.{Header}
 use Rattle.eb_codec.specs.declared.item.Record.{Record}
 use Rattle.eb_codec.specs.declared.item.Why.{Why}
-use Rattle.eb_codec.specs.Stream.{StreamItem, Recorded, Spells, SpellsAll, IsPartial, AreItems, IsFirstBad, IsBadOctet, header_after, header_after_all, HasNoBad}
-use Rattle.eb_codec.proofs.ItemLemmas.{one_spelling}
-use Rattle.eb_codec.proofs.StreamLemmas.{spells_one, spells_append, longest, first_bad}
+use Rattle.eb_codec.specs.Stream.{StreamItem, Recorded, Spells, IsPartial, AreItems, IsFirstBad, IsBadOctet, header_after_all, HasNoBad}
+use Rattle.eb_codec.proofs.EndingLemmas.{no_bad, are_items, longest_bad}
+use Rattle.eb_codec.proofs.StreamLemmas.{spells_one, spells_append, first_bad}
 use Rattle.wb_signals.specs.Request.{Request}
 use Rattle.wb_signals.specs.declared.answer.Answer.{Answer}
 use Rattle.wb_signals.specs.Cycles.{MasterCycles, Asks, made_with}
@@ -25,7 +25,6 @@ use Rattle.eb_session.specs.Replies.{sets_of, replies}
 use Rattle.eb_session.specs.Keeping.{SessionState, Waits, Closed, EndsFor, HasAsking, Answers, FedItem, Stays, finished}
 use Rattle.eb_session.specs.Course.{SoFar, gone_on, answers_in, IsOn, Goes, EndsBy, HasEnded, Begins, FedGoes, RunsAll, FinishEnds, FedEnds}
 use Rattle.eb_session.proofs.Fitting.{All-more}
-use Rattle.eb_session.proofs.Feeding.{bad_whole}
 use Rattle.eb_session.proofs.Going.{goes_on, given-append, none_pends}
 
 pub begins : Begins
@@ -99,24 +98,11 @@ fed_goes m old new piece before after fed f so on =
     let answers : Answers m old piece new before after (Ok fed) = subst (λ (q : Option End). MatchOption q (Answers m old piece new before after (Ok fed)) (λ e. (answer_ok fed ≡ Err e) × Stays old new before after)) on.running f in
     by_item m old new piece before after fed.taken fed.item answers so on
 
--- where less than an item follows whole items no octet is bad
-no_bad : (sets : Widths) (items : List StreamItem) (octets a rest : List ℕ) → octets ≡ a ++ rest → SpellsAll sets None items a → IsPartial sets (header_after_all None items) rest → HasNoBad sets octets
-no_bad sets items octets a rest is s q p why bad =
-    let more : List ℕ = q.1 ∷ q.2 in
-    let whole : SpellsAll sets None (items ++ q.0 ∷ []) (a ++ (rest ++ more)) = spells_append sets None items (q.0 ∷ []) a (rest ++ more) s (spells_one sets (header_after_all None items) q.0 (rest ++ more) q.3) in
-    let split : a ++ (rest ++ more) ≡ take (p + 1) octets ++ (drop (p + 1) octets ++ more) =
-    sym (append_assoc a rest more) ∙ ap (λ (l : List ℕ). l ++ more) (sym is ∙ sym (take-append-drop (p + 1) octets)) ∙ append_assoc (take (p + 1) octets) (drop (p + 1) octets) more in
-    bad.ends (items ++ q.0 ∷ []) (drop (p + 1) octets ++ more) (subst (SpellsAll sets None (items ++ q.0 ∷ [])) split whole)
-
 pub runs_all : RunsAll
 runs_all m so state now on =
-    let sets : Widths = sets_of state.slave.bus in (
-      record {
-        front = on.front;
-        longest = λ others x y e s. longest sets None so.items others on.front.0 state.progress.pending x y (sym on.front.1 ∙ e) on.front.2 on.partial s;
-      },
-      no_bad sets so.items so.octets on.front.0 state.progress.pending on.front.1 on.front.2 on.partial,
-    )
+    let sets : Widths = sets_of state.slave.bus in
+    let f = on.front in
+    (are_items sets so.items so.octets f.0 state.progress.pending f.1 f.2 on.partial, no_bad sets so.items so.octets f.0 state.progress.pending f.1 f.2 on.partial)
 
 -- ---- the cycles at an end
 
@@ -193,19 +179,6 @@ finish_ends m so old new before after e on f =
     closed m so old new before after so.octets e on here.1 (subst (EndsBy old.slave so.octets so.items) (sym here.0) (at_end old.slave so.octets so.items old.progress.pending all.0 all.1))
 
 -- ---- a piece that is refused
-
-longest_bad : (sets : Widths) (header : Option Header) (items others : List StreamItem) (a o a' b' : List ℕ) (p : ℕ) (why : Why) → a ++ o ≡ a' ++ b' → SpellsAll sets header items a → IsBadOctet sets (header_after_all header items) o p why
-    → SpellsAll sets header others a' → length others ≤ length items
-longest_bad sets header items [] a o a' b' p why e s bad t = omega arith
-longest_bad sets header [] (y ∷ others) a o a' b' p why e s bad t =
-    let f : o ≡ t.0 ++ (t.1 ++ b') = sym (ap (λ (l : List ℕ). l ++ o) s) ∙ e ∙ ap (λ (l : List ℕ). l ++ b') t.2 ∙ append_assoc t.0 t.1 b' in
-    absurd (bad_whole sets header y o t.0 (t.1 ++ b') p why bad t.3 f)
-longest_bad sets header (x ∷ items) (y ∷ others) a o a' b' p why e s bad t =
-    let f : s.0 ++ (s.1 ++ o) ≡ t.0 ++ (t.1 ++ b') = sym (append_assoc s.0 s.1 o) ∙ sym (ap (λ (l : List ℕ). l ++ o) s.2) ∙ e ∙ ap (λ (l : List ℕ). l ++ b') t.2 ∙ append_assoc t.0 t.1 b' in
-    let one = one_spelling sets header x y s.0 t.0 (s.1 ++ o) (t.1 ++ b') s.3 t.3 f in
-    let t' : SpellsAll sets (header_after header x) others t.1 = subst (λ (z : StreamItem). SpellsAll sets (header_after header z) others t.1) (sym one.0) t.4 in
-    let le = longest_bad sets (header_after header x) items others s.1 o t.1 b' p why one.2 s.4 bad t' in
-    omega (arith, le)
 
 module _ (m : ℕ) (so : SoFar) (old : SessionState) (before : MasterCycles) (piece : List ℕ) (on : IsOn m so old before) where
   whole : so.octets ++ piece ≡ on.front.0 ++ (old.progress.pending ++ piece)
