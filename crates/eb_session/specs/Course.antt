@@ -3,7 +3,6 @@ use Rattle.std.specs.Prelude.{◌≡◌, ℕ, ◌<◌, ◌≤◌, List, [], ◌�
 use Rattle.eb_base.specs.declared.width.Widths.{Widths}
 use Rattle.eb_codec.specs.declared.item.Header.{Header}
 use Rattle.eb_codec.specs.declared.item.Record.{Record}
-use Rattle.eb_codec.specs.declared.item.Why.{Why}
 use Rattle.eb_codec.specs.Stream.{StreamItem, Recorded, Spells, SpellsAll, IsPartial, AreItems, IsFirstBad, header_after_all, HasNoBad}
 use Rattle.wb_signals.specs.Cycles.{MasterCycles, Asks}
 use Rattle.wb_signals.specs.History.{Entry, marked, requests_of, answers_of, given}
