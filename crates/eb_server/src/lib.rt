@@ -1,4 +1,11 @@
-//! How whole streams of octets are served: read from a source, run by a session on a master, and answered to a sink.
+//! A whole stream served: read from a source in pieces, run by a session on a master, and answered to a sink. Its
+//! contract: what was read, which items ran, what was written for them and how the stream ended, by one definition; and
+//! the laws that octets decide their ending and have one reply.
+//!
+//! - `serving`: a whole stream
+//! - `piece`: a piece of a stream
+//! - `ending`: how a stream ended
+//! - `laws`: what holds of every stream that is served
 #![tactic(auto)]
 
 mod ending;

@@ -1,6 +1,6 @@
 //! What an Etherbone slave makes of a stream: the bus cycles of its items, the entries that fit them, the error shift
-//! register, configuration words, and the reply. `Session` runs a stream on any master, in any pieces. Its contract: the
-//! entries fit the cycles of the items that ran, and the replies are those of these items with these answers.
+//! register, configuration words, and the reply. `Session` runs a stream on any master, in any pieces. Its contract:
+//! the entries fit the cycles of the items that ran, and the replies are those of these items with these answers.
 //!
 //! - `slave`: a slave, and the widths that it has
 //! - `session`: the session of one stream

@@ -60,7 +60,8 @@ fn access(port: Width, bus: Width, write: bool, adr: u64, dat: u64, sel: u8) -> 
 // The address of a write.
 fn write_address(header: Header, flags: u8, base: u64, i: usize) -> u64
     requires few { i < 256 }
-    ensures value { result ≡ (if has flags WFF then base else (base + i * octets header.port) % 256 ^ octets header.address) }
+    ensures value { result
+        ≡ (if has flags WFF then base else (base + i * octets header.port) % 256 ^ octets header.address) }
 {
     if flags & WFF != 0 {
         base

@@ -69,9 +69,11 @@ fn put_words<M: Master>(
 )
     requires narrow { octets view.now.header.port ≤ octets slave.bus }
     requires answers { bus_writes view.now.item + bus_reads view.now.item ≤ length (M.answered master.now) }
-    requires room { vec_len reply.old + field_octets view.now.header * view.now.item.head.reads ≤ vec_capacity reply.old }
+    requires room { vec_len reply.old + field_octets view.now.header * view.now.item.head.reads
+        ≤ vec_capacity reply.old }
     ensures items { reply.new.items ≡ reply.old.items ++ zeroed (flat_map (field view.now.header view.now.header.port)
-        (upto view.now.item.head.reads (read_word slave view.now.header view.now.item (M.answered master.now) errors))) }
+        (upto view.now.item.head.reads
+        (read_word slave view.now.header view.now.item (M.answered master.now) errors))) }
     ensures len { vec_len reply.new ≡ vec_len reply.old + field_octets view.now.header * view.now.item.head.reads }
     ensures capacity { vec_capacity reply.old ≤ vec_capacity reply.new }
 {

@@ -20,8 +20,8 @@ fn asks<M: Master>(master: &M, ops: &[Op], last: bool) -> bool
     master.is_open()
 }
 
-/// Runs the operations of a record, which may end the cycle that is open. Where there is nothing to ask of the master, it
-/// isn't asked.
+/// Runs the operations of a record, which may end the cycle that is open. Where there is nothing to ask of the master,
+/// it isn't asked.
 pub fn run_ops<M: Master>(
     alloc: Global,
     master: &mut M,

@@ -1,3 +1,4 @@
+//! A master over a machine of its own.
 ghost use Rattle.std.specs.Prelude.{◌≡◌, ◌≢◌, ◌≤◌, ◌+◌, ◌++◌, [], length, OnOk, vec_len, vec_capacity};
 ghost use Rattle.eb_base.specs.declared.width.Width.TheVariants.{W32};
 ghost use Rattle.wb_signals.specs.Cycles.{AllFitBus, ended, made_after, opened_after};
@@ -37,7 +38,9 @@ impl Model for PlainMaster {
 
     ghost view = { λ p. plain p.began.value p.machine p.number p.journal.entries p.opened.items p.answers.items };
 
-    ghost invariant = { λ p. IsPlain (plain p.began.value p.machine p.number p.journal.entries p.opened.items p.answers.items) × (p.opened.items ≢ [] → 1 ≤ p.journal.spare) };
+    ghost invariant = { λ p.
+        IsPlain (plain p.began.value p.machine p.number p.journal.entries p.opened.items p.answers.items)
+        × (p.opened.items ≢ [] → 1 ≤ p.journal.spare) };
 }
 
 impl PlainMaster {
