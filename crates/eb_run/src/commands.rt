@@ -1,14 +1,15 @@
 // The commands, behind their words.
 ghost use Rattle.std.specs.Prelude.{map, string_bytes};
 ghost use Rattle.eb_text.specs.Words.{AnswerRam, Answer, Build, IsRamSize};
-ghost use Rattle.eb_run.specs.Commands.{Runs};
-ghost use Rattle.eb_run.specs.Top.{RunsWords};
+ghost use Rattle.eb_run.specs.Run.{run_of};
+ghost use Rattle.eb_run.specs.Commands.{ComesTo};
+ghost use Rattle.eb_run.specs.Top.{WordsComeTo};
 
-use crate::board::Board;
 use crate::files::read_description;
 use crate::load::load;
 use crate::results::written;
-use crate::streams::answer_file;
+use crate::slave::PlainSlave;
+use crate::streams::answer_capture;
 use eb_io::{Sink, World, put_all};
 use eb_text::{Fault, Words, command_of, write_build};
 use sdb_build::images;
@@ -24,15 +25,17 @@ fn answer_ram<W: World, O: Sink>(
     out: &mut O,
 ) -> Result<(), Fault>
     requires size { IsRamSize octets }
-    ensures runs { Runs W.File.reading (W.outside world.old) (W.outside world.new) (O.writing out.old) (O.writing out.new) (AnswerRam octets capture.now) result }
+    ensures comes_to { ComesTo
+        (run_of W.File.reading (W.outside world.old) (W.outside world.new) (O.writing out.old) (O.writing out.new))
+        (AnswerRam octets capture.now) result }
 {
     let Ok(machine) = Machine::ram(alloc, octets) else {
         return Err(Fault::NoMemory);
     };
-    let Ok(mut board) = Board::new(alloc, machine, 0) else {
+    let Ok(mut slave) = PlainSlave::new(alloc, machine, 0) else {
         return Err(Fault::NoMemory);
     };
-    answer_file(alloc, capture, world, &mut board, out)
+    answer_capture(alloc, capture, world, &mut slave, out)
 }
 
 // `answer DESC CAPTURE`
@@ -43,16 +46,18 @@ fn answer<W: World, O: Sink>(
     world: &mut W,
     out: &mut O,
 ) -> Result<(), Fault>
-    ensures runs { Runs W.File.reading (W.outside world.old) (W.outside world.new) (O.writing out.old) (O.writing out.new) (Answer description.now capture.now) result }
+    ensures comes_to { ComesTo
+        (run_of W.File.reading (W.outside world.old) (W.outside world.new) (O.writing out.old) (O.writing out.new))
+        (Answer description.now capture.now) result }
 {
     let described = read_description(alloc, description, world)?;
     let Ok(machine) = Machine::build(alloc, &described) else {
         return Err(Fault::NoMemory);
     };
-    let Ok(mut slave) = Board::new(alloc, machine, described.bus.sdb) else {
+    let Ok(mut slave) = PlainSlave::new(alloc, machine, described.bus.sdb) else {
         return Err(Fault::NoMemory);
     };
-    answer_file(alloc, capture, world, &mut slave, out)
+    answer_capture(alloc, capture, world, &mut slave, out)
 }
 
 // `build DESC`
@@ -62,7 +67,9 @@ fn build<W: World, O: Sink>(
     world: &mut W,
     out: &mut O,
 ) -> Result<(), Fault>
-    ensures runs { Runs W.File.reading (W.outside world.old) (W.outside world.new) (O.writing out.old) (O.writing out.new) (Build description.now) result }
+    ensures comes_to { ComesTo
+        (run_of W.File.reading (W.outside world.old) (W.outside world.new) (O.writing out.old) (O.writing out.new))
+        (Build description.now) result }
 {
     let found = read_description(alloc, description, world)?;
     let Ok(images) = images(alloc, &found) else {
@@ -78,7 +85,9 @@ pub fn run_words<W: World, O: Sink>(
     world: &mut W,
     out: &mut O,
 ) -> Result<(), Fault>
-    ensures runs { RunsWords W.File.reading (W.outside world.old) (W.outside world.new) (O.writing out.old) (O.writing out.new) (map string_bytes words.now) result }
+    ensures comes_to { WordsComeTo
+        (run_of W.File.reading (W.outside world.old) (W.outside world.new) (O.writing out.old) (O.writing out.new))
+        (map string_bytes words.now) result }
 {
     let Some(command) = command_of(words) else {
         return Err(Fault::Usage);

@@ -2,11 +2,11 @@
 ghost use Rattle.std.specs.Prelude.{IfOk};
 ghost use Rattle.eb_load.specs.Summary.{summary_text};
 ghost use Rattle.soc_machine.specs.Machine.{built_with_ram};
-ghost use Rattle.eb_run.specs.Board.{IsMade};
-ghost use Rattle.eb_run.specs.Commands.{LoadRuns, Summed};
+ghost use Rattle.eb_run.specs.Slave.{IsMade};
+ghost use Rattle.eb_run.specs.Commands.{MakesText, Summed};
 
-use crate::board::Board;
 use crate::results::written;
+use crate::slave::PlainSlave;
 use eb_base::NoMemory;
 use eb_io::{MemSink, Sink};
 use eb_load::{LoadSource, Summary};
@@ -28,17 +28,17 @@ fn summary_of(
     alloc: Global,
     start: u32,
     cycles: u32,
-    board: &mut Board,
+    slave: &mut PlainSlave,
 ) -> Result<Summary, NoMemory>
-    requires made { IsMade (built_with_ram 65536) 0 board.old }
+    requires made { IsMade (built_with_ram 65536) 0 slave.old }
     ensures summed { IfOk result (λ s. Summed start cycles (summary_text s)) }
 {
     let room = HEADER_REPLY + RECORD_REPLY * cycles as usize;
     let mut replies = MemSink::new(alloc, room, usize::MAX, Vec::new(alloc))?;
     let mut source = LoadSource::new(start, cycles);
-    match board.serve(alloc, &mut source, &mut replies) {
+    match slave.serve(alloc, &mut source, &mut replies) {
         Ending::Clean => Ok(Summary::of(
-            board.journal(),
+            slave.journal(),
             source.given(),
             replies.octets().len() as u64,
         )),
@@ -52,15 +52,15 @@ fn summary_of(
 
 /// Answers a generated stream on a RAM, and writes the summary of that.
 pub fn load<O: Sink>(alloc: Global, start: u32, cycles: u32, out: &mut O) -> Result<(), Fault>
-    ensures runs { LoadRuns (O.writing out.old) (O.writing out.new) start cycles result }
+    ensures makes { MakesText (O.writing out.old) (O.writing out.new) (Summed start cycles) result }
 {
     let Ok(machine) = Machine::ram(alloc, RAM) else {
         return Err(Fault::NoMemory);
     };
-    let Ok(mut board) = Board::new(alloc, machine, 0) else {
+    let Ok(mut slave) = PlainSlave::new(alloc, machine, 0) else {
         return Err(Fault::NoMemory);
     };
-    match summary_of(alloc, start, cycles, &mut board) {
+    match summary_of(alloc, start, cycles, &mut slave) {
         Err(_) => Err(Fault::NoMemory),
         Ok(summary) => written(summary.write(out)),
     }

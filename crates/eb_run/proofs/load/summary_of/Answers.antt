@@ -5,11 +5,11 @@ use Rattle.eb_server.specs.declared.ending.Ending.{Ending}
 use Rattle.eb_load.specs.LoadSource.{reading_of}
 use Rattle.eb_load.specs.Summary.{summary, summary_text}
 use Rattle.eb_load.specs.declared.summary.Summary.{Summary}
-use Rattle.eb_run.specs.Board.{entries_of}
+use Rattle.eb_run.specs.Slave.{entries_of}
 use Rattle.eb_run.specs.Commands.{Summed}
 use Rattle.eb_run.specs.Streams.{System, ServedOn, ram_system}
-use Rattle.eb_run.proofs.Boards.{ram_is}
-use Rattle.eb_run.proofs.Loads.{MayEnd, may_end, summed}
+use Rattle.eb_run.proofs.SlaveLemmas.{ram_is}
+use Rattle.eb_run.proofs.LoadLemmas.{MayEnd, may_end, summed}
 use Rattle.eb_run.proofs.load.summary_of.Goals as goal
 
 pub returns-in-Clean : goal.returns-in-Clean
@@ -19,7 +19,7 @@ returns-in-Clean c =
     let out = writing_of c.in_ok-replies.replies in
     let out' = writing_of c.serve.new.sink in
     let entries = entries_of c.serve.new.self in
-    let served = subst (λ (s : System). ServedOn s source source' out out' entries c.serve.result) (ram_is 65536 c.args.board.now c.requires.made) c.serve.ensures.served in
+    let served = subst (λ (s : System). ServedOn s source source' out out' entries c.serve.result) (ram_is 65536 c.args.slave.now c.requires.made) c.serve.ensures.served in
     let small : c.args.cycles < 2 ^ 32 = omega arith in
     let clean = subst (λ (e : Ending). ServedOn (ram_system 65536) source source' out out' entries e) c.in-Clean.is served in
     let sum = summed c.args.start c.args.cycles source source' out out' entries small (c.new-source.ensures.tells, c.in_ok-replies.ensures.tells) refl c.given.result c.octets.result.now clean c.given.ensures.count c.octets.ensures.written in
@@ -34,7 +34,7 @@ unreachable-requires c =
     let out = writing_of c.in_ok-replies.replies in
     let out' = writing_of c.serve.new.sink in
     let entries = entries_of c.serve.new.self in
-    let served = subst (λ (s : System). ServedOn s source source' out out' entries c.serve.result) (ram_is 65536 c.args.board.now c.requires.made) c.serve.ensures.served in
+    let served = subst (λ (s : System). ServedOn s source source' out out' entries c.serve.result) (ram_is 65536 c.args.slave.now c.requires.made) c.serve.ensures.served in
     let small : c.args.cycles < 2 ^ 32 = omega arith in
     subst (λ (e : Ending). MayEnd e) c.in-Truncated.is (may_end c.args.start c.args.cycles source source' out out' entries small (c.new-source.ensures.tells, c.in_ok-replies.ensures.tells) refl c.serve.result served)
 
@@ -45,7 +45,7 @@ unreachable-requires-in-Malformed c =
     let out = writing_of c.in_ok-replies.replies in
     let out' = writing_of c.serve.new.sink in
     let entries = entries_of c.serve.new.self in
-    let served = subst (λ (s : System). ServedOn s source source' out out' entries c.serve.result) (ram_is 65536 c.args.board.now c.requires.made) c.serve.ensures.served in
+    let served = subst (λ (s : System). ServedOn s source source' out out' entries c.serve.result) (ram_is 65536 c.args.slave.now c.requires.made) c.serve.ensures.served in
     let small : c.args.cycles < 2 ^ 32 = omega arith in
     subst (λ (e : Ending). MayEnd e) c.in-Malformed.is (may_end c.args.start c.args.cycles source source' out out' entries small (c.new-source.ensures.tells, c.in_ok-replies.ensures.tells) refl c.serve.result served)
 
@@ -56,6 +56,6 @@ unreachable-requires-in-TooLong c =
     let out = writing_of c.in_ok-replies.replies in
     let out' = writing_of c.serve.new.sink in
     let entries = entries_of c.serve.new.self in
-    let served = subst (λ (s : System). ServedOn s source source' out out' entries c.serve.result) (ram_is 65536 c.args.board.now c.requires.made) c.serve.ensures.served in
+    let served = subst (λ (s : System). ServedOn s source source' out out' entries c.serve.result) (ram_is 65536 c.args.slave.now c.requires.made) c.serve.ensures.served in
     let small : c.args.cycles < 2 ^ 32 = omega arith in
     subst (λ (e : Ending). MayEnd e) c.in-TooLong.is (may_end c.args.start c.args.cycles source source' out out' entries small (c.new-source.ensures.tells, c.in_ok-replies.ensures.tells) refl c.serve.result served)

@@ -1,7 +1,7 @@
-// A slave with its bus, on which streams are served.
+// A slave with the master that it has for itself, on which a stream is served.
 ghost use Rattle.std.specs.Prelude.{◌≡◌, IfOk};
 ghost use Rattle.eb_run.specs.Streams.{ServedOn};
-ghost use Rattle.eb_run.specs.Board.{IsNew, IsMade, system_of, entries_of};
+ghost use Rattle.eb_run.specs.Slave.{IsNewSlave, IsMade, system_of, entries_of};
 
 use eb_base::{NoMemory, Width};
 use eb_io::{Sink, Source};
@@ -16,15 +16,15 @@ const ROOM: usize = 65_536;
 
 /// A slave on a bus of 32 data bits with the machine behind it, and the room that its stream is read into.
 #[derive(Drop)]
-pub struct Board {
+pub struct PlainSlave {
     session: Session,
     master: PlainMaster,
     room: Vec<u8>,
 }
 
-impl Board {
+impl PlainSlave {
     /// Takes all that a stream needs but the entries of its cycles. The root SDB table stands at the address `root`.
-    pub fn new(alloc: Global, machine: Machine, root: u64) -> Result<Board, NoMemory>
+    pub fn new(alloc: Global, machine: Machine, root: u64) -> Result<PlainSlave, NoMemory>
         ensures new { IfOk result (IsMade machine root) }
     {
         let bus = Width::W32;
@@ -32,7 +32,7 @@ impl Board {
         let Ok(room) = vec![in alloc; 0; ROOM] else {
             return Err(NoMemory);
         };
-        Ok(Board {
+        Ok(PlainSlave {
             session,
             master: PlainMaster::new(alloc, machine, 0),
             room,
@@ -46,8 +46,9 @@ impl Board {
         source: &mut S,
         sink: &mut K,
     ) -> Ending
-        requires new { IsNew self.old }
-        ensures served { ServedOn (system_of self.old) (S.reading source.old) (S.reading source.new) (K.writing sink.old) (K.writing sink.new) (entries_of self.new) result }
+        requires new { IsNewSlave self.old }
+        ensures served { ServedOn (system_of self.old) (S.reading source.old) (S.reading source.new)
+            (K.writing sink.old) (K.writing sink.new) (entries_of self.new) result }
     {
         let ending = serve(
             alloc,

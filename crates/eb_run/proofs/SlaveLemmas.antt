@@ -1,4 +1,4 @@
--- What a board's stream came to, from what its session and its master came to.
+-- What the stream of a slave came to, from what its session and its master came to.
 use Rattle.std.proofs.Common.{◌≡◌, ℕ, List, [], ◌++◌, sym, ◌∙◌, ap, subst}
 use Rattle.std.specs.Prelude.{All}
 use Rattle.eb_io.specs.Reading.{Reading}
@@ -10,9 +10,9 @@ use Rattle.eb_server.specs.Serving as serving
 use Rattle.eb_server.specs.declared.ending.Ending.{Ending}
 use Rattle.soc_machine.specs.Machine.{MachineState, wiring_of, built_with_ram}
 use Rattle.soc_machine.specs.Plain.{PlainState, new_plain}
-use Rattle.eb_run.specs.Board.{IsMade, system_of}
+use Rattle.eb_run.specs.Slave.{IsMade, system_of}
 use Rattle.eb_run.specs.Streams.{ServedOn, ram_system}
-use Rattle.eb_run.specs.declared.board.Board.{Board}
+use Rattle.eb_run.specs.declared.slave.PlainSlave.{PlainSlave}
 
 -- The master was new, and its entries are a legal history.
 pub served_on : (s : Slave) (old new : PlainState) (source source' : Reading) (out out' : Writing) (e : Ending) → old ≡ new_plain old.began 0 → new.began ≡ old.began
@@ -36,6 +36,6 @@ served_on s old new source source' out out' e is_new began legal served =
       answered = subst (λ (l : List Entry). serving.WereAnswered s out out' served.items (given l) e) made served.answered;
     }
 
--- a board of a machine of one RAM, without a table
-pub ram_is : (octets : ℕ) (b : Board) → IsMade (built_with_ram octets) 0 b → system_of b ≡ ram_system octets
+-- a slave of a machine of one RAM, without a table
+pub ram_is : (octets : ℕ) (b : PlainSlave) → IsMade (built_with_ram octets) 0 b → system_of b ≡ ram_system octets
 ram_is octets b made = λ i. record { slave = made.slave_is i; wiring = wiring_of (made.machine_is i); contents = (made.machine_is i).contents }
