@@ -301,10 +301,9 @@ fn expect<R: Abort>(
     words: &[&str],
     mut world: MemWorld,
     write_fails: &[u64],
-    status: u8,
-    output: &[u8],
-    line: &str,
+    wanted: (u8, &[u8], &str),
 ) -> Result<(), Fail> {
+    let (status, output, line) = wanted;
     let words = words_of(alloc, words)?;
     let mut out = MemSink::new(alloc, 4096, 3, Vec::from_slice(alloc, write_fails)?)?;
     let mut err = MemSink::new(alloc, 4096, 3, Vec::new(alloc))?;
@@ -327,9 +326,7 @@ fn expect_row<R: Abort>(rt: &R, alloc: Global, row: &Row, most: usize) -> Result
         &words,
         world,
         &[],
-        row.status,
-        row.reply,
-        row.line,
+        (row.status, row.reply, row.line),
     )
 }
 
@@ -368,9 +365,9 @@ fn the_longest_record_is_answered(rt: HostRuntime) -> Result<(), Fail> {
         1,
     )?;
     let world = world_of(alloc, file_of(alloc, &capture, 4096, &[])?)?;
-    expect(&rt, alloc, &ANSWER, world, &[], 0, &reply, "")?;
+    expect(&rt, alloc, &ANSWER, world, &[], (0, &reply, ""))?;
     let world = world_of(alloc, file_of(alloc, &capture, 1, &[])?)?;
-    expect(&rt, alloc, &ANSWER, world, &[], 0, &reply, "")
+    expect(&rt, alloc, &ANSWER, world, &[], (0, &reply, ""))
 }
 
 #[test]
@@ -379,11 +376,11 @@ fn faults_are_told(rt: HostRuntime) -> Result<(), Fail> {
     let row = &ROWS[0];
     let world = world_of(alloc, file_of(alloc, row.capture, 4, &[1])?)?;
     let header = &row.reply[..4];
-    expect(&rt, alloc, &ANSWER, world, &[], 4, header, "read fault\n")?;
+    expect(&rt, alloc, &ANSWER, world, &[], (4, header, "read fault\n"))?;
     let world = world_of(alloc, file_of(alloc, row.capture, 4, &[])?)?;
-    expect(&rt, alloc, &ANSWER, world, &[0], 5, &[], "write fault\n")?;
+    expect(&rt, alloc, &ANSWER, world, &[0], (5, &[], "write fault\n"))?;
     let world = MemWorld::new(alloc, Vec::new(alloc));
-    expect(&rt, alloc, &ANSWER, world, &[], 4, &[], "read fault\n")
+    expect(&rt, alloc, &ANSWER, world, &[], (4, &[], "read fault\n"))
 }
 
 #[test]
@@ -393,7 +390,7 @@ fn captures_are_answered_on_a_described_bus(rt: HostRuntime) -> Result<(), Fail>
         let (capture, reply) = *row;
         let soc = file_of(alloc, SOC.as_bytes(), 4096, &[])?;
         let world = world_of_two(alloc, soc, file_of(alloc, capture, 4096, &[])?)?;
-        expect(&rt, alloc, &ON_BUS, world, &[], 0, reply, "")?;
+        expect(&rt, alloc, &ON_BUS, world, &[], (0, reply, ""))?;
     }
     Ok(())
 }
@@ -401,7 +398,7 @@ fn captures_are_answered_on_a_described_bus(rt: HostRuntime) -> Result<(), Fail>
 // A description that is refused with this line.
 fn expect_refused<R: Abort>(rt: &R, alloc: Global, text: &str, line: &str) -> Result<(), Fail> {
     let world = world_of(alloc, file_of(alloc, text.as_bytes(), 4096, &[])?)?;
-    expect(rt, alloc, &["build", "soc"], world, &[], 3, &[], line)
+    expect(rt, alloc, &["build", "soc"], world, &[], (3, &[], line))
 }
 
 #[test]
@@ -445,9 +442,7 @@ fn loads_are_summed_up(rt: HostRuntime) -> Result<(), Fail> {
         &["load", "0", "1"],
         world,
         &[],
-        0,
-        ONE_CYCLE.as_bytes(),
-        "",
+        (0, ONE_CYCLE.as_bytes(), ""),
     )?;
     let world = MemWorld::new(alloc, Vec::new(alloc));
     expect(
@@ -456,9 +451,7 @@ fn loads_are_summed_up(rt: HostRuntime) -> Result<(), Fail> {
         &["load", "0", "0"],
         world,
         &[],
-        0,
-        NO_CYCLE.as_bytes(),
-        "",
+        (0, NO_CYCLE.as_bytes(), ""),
     )
 }
 
@@ -467,10 +460,17 @@ fn words_are_told_apart(rt: HostRuntime) -> Result<(), Fail> {
     let alloc = rt.alloc();
     for words in &REFUSED {
         let world = MemWorld::new(alloc, Vec::new(alloc));
-        expect(&rt, alloc, words, world, &[], 2, &[], "usage\n")?;
+        expect(&rt, alloc, words, world, &[], (2, &[], "usage\n"))?;
     }
     let world = MemWorld::new(alloc, Vec::new(alloc));
-    expect(&rt, alloc, &["--version"], world, &[], 0, b"eb 0.1.0\n", "")?;
+    expect(
+        &rt,
+        alloc,
+        &["--version"],
+        world,
+        &[],
+        (0, b"eb 0.1.0\n", ""),
+    )?;
     let world = MemWorld::new(alloc, Vec::new(alloc));
     expect(
         &rt,
@@ -478,8 +478,6 @@ fn words_are_told_apart(rt: HostRuntime) -> Result<(), Fail> {
         &["--help"],
         world,
         &[0],
-        5,
-        &[],
-        "write fault\n",
+        (5, &[], "write fault\n"),
     )
 }

@@ -54,20 +54,13 @@ fn both_ways<R: Abort>(rt: &R, value: &Record, octets: &[(u8, u8)])
 }
 
 #[test]
-fn extreme_values(rt: HostRuntime) -> Result<(), Fail> {
+fn least_values(rt: HostRuntime) -> Result<(), Fail> {
     let least = Product {
         vendor: 0,
         device: 0,
         version: 0,
         date: 0,
         name: Name::new(b"").ok_or("name")?,
-    };
-    let most = Product {
-        vendor: u64::MAX,
-        device: u32::MAX,
-        version: u32::MAX,
-        date: u32::MAX,
-        name: Name::new(b"~~~~~~~~~~~~~~~~~~~").ok_or("name")?,
     };
     let bus = Record::Interconnect {
         records: 1,
@@ -89,6 +82,26 @@ fn extreme_values(rt: HostRuntime) -> Result<(), Fail> {
             (63, 0),
         ],
     );
+    let bridge = Record::Bridge {
+        child: 0x0102_0304_0506_0708,
+        first: 0,
+        last: 0x1000,
+        product: least,
+    };
+    both_ways(&rt, &bridge, &[(0, 1), (7, 8), (22, 0x10), (63, 2)]);
+    both_ways(&rt, &Record::Empty, &[(0, 0), (44, 0), (62, 0), (63, 0xff)]);
+    Ok(())
+}
+
+#[test]
+fn greatest_values(rt: HostRuntime) -> Result<(), Fail> {
+    let most = Product {
+        vendor: u64::MAX,
+        device: u32::MAX,
+        version: u32::MAX,
+        date: u32::MAX,
+        name: Name::new(b"~~~~~~~~~~~~~~~~~~~").ok_or("name")?,
+    };
     let bus = Record::Interconnect {
         records: u16::MAX,
         first: 0,
@@ -109,6 +122,24 @@ fn extreme_values(rt: HostRuntime) -> Result<(), Fail> {
             (63, 0),
         ],
     );
+    let integration = Record::Integration { product: most };
+    both_ways(
+        &rt,
+        &integration,
+        &[(0, 0), (23, 0), (24, 0xff), (63, 0x80)],
+    );
+    Ok(())
+}
+
+#[test]
+fn a_device(rt: HostRuntime) -> Result<(), Fail> {
+    let most = Product {
+        vendor: u64::MAX,
+        device: u32::MAX,
+        version: u32::MAX,
+        date: u32::MAX,
+        name: Name::new(b"~~~~~~~~~~~~~~~~~~~").ok_or("name")?,
+    };
     let device = Record::Device {
         class: 0x0102,
         major: 3,
@@ -134,16 +165,6 @@ fn extreme_values(rt: HostRuntime) -> Result<(), Fail> {
             (63, 1),
         ],
     );
-    let bridge = Record::Bridge {
-        child: 0x0102_0304_0506_0708,
-        first: 0,
-        last: 0x1000,
-        product: least,
-    };
-    both_ways(&rt, &bridge, &[(0, 1), (7, 8), (22, 0x10), (63, 2)]);
-    let board = Record::Integration { product: most };
-    both_ways(&rt, &board, &[(0, 0), (23, 0), (24, 0xff), (63, 0x80)]);
-    both_ways(&rt, &Record::Empty, &[(0, 0), (44, 0), (62, 0), (63, 0xff)]);
     Ok(())
 }
 
