@@ -6,8 +6,10 @@ pub mod Plan
 pub mod Calls
 pub mod MemSource
 pub mod MemSink
+pub mod CountSink
+pub mod Text
 pub mod Shelf
 pub mod MemWorld
-pub mod FileSource
-pub mod StdSink
+pub mod ReadSource
+pub mod WriteSink
 pub mod RealWorld

@@ -1,13 +1,13 @@
 -- A sink in memory.
-use Rattle.std.specs.Prelude.{◌≡◌, ◌⊎◌, ℕ, ◌-◌, Some, length}
-use Rattle.eb_io.specs.Writing.{Writing}
+use Rattle.std.specs.Prelude.{◌≡◌, ◌⊎◌, ℕ, ◌-◌, length}
+use Rattle.eb_io.specs.Writing.{Writing, Octets}
 use Rattle.eb_io.specs.Plan.{Plan, FailsNow}
 use Rattle.eb_io.specs.Calls as calls
 use Rattle.eb_io.specs.declared.sink.MemSink.{MemSink}
 
 -- what it tells
 abbrev pub writing_of : MemSink → Writing
-writing_of s = record { written = Some s.octets.items; faults = s.faults }
+writing_of s = record { written = Octets s.octets.items; faults = s.faults }
 
 -- its calls
 abbrev pub plan_of : MemSink → Plan

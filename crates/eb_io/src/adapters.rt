@@ -1,27 +1,45 @@
-// The edge: real files and the standard streams. They tell no content, since no contract can say what a file holds or
-// where a stream goes; their counts of faults are told.
-ghost use Rattle.std.specs.Prelude.{◌≡◌, [], None};
+// The edge: readers and writers of std, and with them the real files and the standard streams.
+ghost use Rattle.std.specs.Prelude.{None, ◌≡◌, ◌<◌, [], length};
+ghost use Rattle.eb_io.specs.Reading.{Reads};
+ghost use Rattle.eb_io.specs.Writing.{Nothing, Writes};
 
 use crate::shelf::Shelf;
 use crate::{Got, Opened, Put, Sink, Source, World};
 use std::alloc::Global;
 use std::fs::{self, File};
-use std::io::{Read, Stderr, Stdout, Write};
+use std::io::{Read, Write};
 
-/// A real file that is read.
+/// A reader of std as a source.
 #[derive(Drop)]
-pub struct FileSource {
-    file: File,
+pub struct ReadSource<R> {
+    reader: R,
     faults: u64,
 }
 
-impl Source for FileSource {
-    ghost use Rattle.eb_io.specs.FileSource.{reading_of};
+impl<R: Read> ReadSource<R> {
+    ghost use Rattle.eb_io.specs.ReadSource.{reading_of};
+
+    /// No read failed yet.
+    pub fn new(reader: R) -> ReadSource<R>
+        ensures tells { reading_of result ≡ record { given = None; left = None; faults = 0 } }
+        ensures reader { result.reader ≡ reader }
+    {
+        ReadSource { reader, faults: 0 }
+    }
+}
+
+impl<R: Read> Source for ReadSource<R> {
+    ghost use Rattle.eb_io.specs.ReadSource.{reading_of, ReadsLeft};
 
     ghost reading = { reading_of };
 
-    fn read(&mut self, room: &mut [u8]) -> Got {
-        match self.file.read(room) {
+    /// One read of the reader.
+    fn read(&mut self, room: &mut [u8]) -> Got
+        requires some_room { 0 < length room.old }
+        ensures reads { Reads (reading_of self.old) (reading_of self.new) room.new result }
+        ensures left { ReadsLeft (R.remaining self.old.reader) (R.remaining self.new.reader) room.new result }
+    {
+        match self.reader.read(room) {
             Ok(0) => Got::End,
             Ok(count) => Got::Some(count),
             Err(_) => {
@@ -32,55 +50,37 @@ impl Source for FileSource {
     }
 }
 
+/// A writer of std as a sink.
 #[derive(Drop)]
-enum Stream {
-    Output(Stdout),
-    Error(Stderr),
-}
-
-/// Standard output or standard error.
-#[derive(Drop)]
-pub struct StdSink {
-    stream: Stream,
+pub struct WriteSink<W> {
+    writer: W,
     faults: u64,
 }
 
-impl StdSink {
-    ghost use Rattle.eb_io.specs.StdSink.{writing_of};
+impl<W: Write> WriteSink<W> {
+    ghost use Rattle.eb_io.specs.WriteSink.{writing_of};
 
-    /// Standard output.
-    pub fn output(rt: HostRuntime) -> StdSink
-        ensures tells { writing_of result ≡ record { written = None; faults = 0 } }
+    /// No write failed yet.
+    pub fn new(writer: W) -> WriteSink<W>
+        ensures tells { writing_of result ≡ record { written = Nothing; faults = 0 } }
+        ensures writer { result.writer ≡ writer }
     {
-        StdSink {
-            stream: Stream::Output(rt.stdout()),
-            faults: 0,
-        }
-    }
-
-    /// Standard error.
-    pub fn error(rt: HostRuntime) -> StdSink
-        ensures tells { writing_of result ≡ record { written = None; faults = 0 } }
-    {
-        StdSink {
-            stream: Stream::Error(rt.stderr()),
-            faults: 0,
-        }
+        WriteSink { writer, faults: 0 }
     }
 }
 
-impl Sink for StdSink {
-    ghost use Rattle.eb_io.specs.StdSink.{writing_of};
+impl<W: Write> Sink for WriteSink<W> {
+    ghost use Rattle.eb_io.specs.WriteSink.{writing_of, WritesHeld};
 
     ghost writing = { writing_of };
 
-    /// A write that takes no octet is a failed one.
-    fn write(&mut self, piece: &[u8]) -> Put {
-        let written = match &mut self.stream {
-            Stream::Output(stream) => stream.write(piece),
-            Stream::Error(stream) => stream.write(piece),
-        };
-        match written {
+    /// One write to the writer. One that takes no octet is a failed one.
+    fn write(&mut self, piece: &[u8]) -> Put
+        requires some_piece { 0 < length piece.now }
+        ensures writes { Writes (writing_of self.old) (writing_of self.new) piece.now result }
+        ensures held { WritesHeld (W.contents self.old.writer) (W.contents self.new.writer) piece.now result }
+    {
+        match self.writer.write(piece) {
             Ok(count) if count > 0 => Put::Some(count),
             _ => {
                 self.faults = self.faults.saturating_add(1);
@@ -94,7 +94,7 @@ impl Sink for StdSink {
 #[derive(Drop)]
 pub struct RealWorld {
     rt: HostRuntime,
-    shelf: Shelf<FileSource>,
+    shelf: Shelf<ReadSource<File>>,
 }
 
 impl RealWorld {
@@ -112,7 +112,7 @@ impl RealWorld {
 }
 
 impl World for RealWorld {
-    type File = FileSource;
+    type File = ReadSource<File>;
 
     ghost use Rattle.eb_io.specs.RealWorld.{world_of};
 
@@ -124,7 +124,7 @@ impl World for RealWorld {
         }
         match fs::open(&self.rt, name) {
             Ok(file) => {
-                self.shelf.add(FileSource { file, faults: 0 });
+                self.shelf.add(ReadSource::new(file));
                 Opened::Done
             }
             Err(_) => {
@@ -134,11 +134,11 @@ impl World for RealWorld {
         }
     }
 
-    fn files(&mut self, alloc: Global) -> Vec<FileSource> {
+    fn files(&mut self, alloc: Global) -> Vec<ReadSource<File>> {
         self.shelf.hand_out(alloc)
     }
 
-    fn put_files(&mut self, files: Vec<FileSource>)
+    fn put_files(&mut self, files: Vec<ReadSource<File>>)
         requires none_left { (world_of self.old).files ≡ [] }
         ensures put { world_of self.new ≡ record (world_of self.old) { files = files.items } }
     {

@@ -27,7 +27,8 @@ impl<F: Drop> Shelf<F> {
 
     /// Notes that a name is asked for, and makes room for its file first, so that `add` takes no memory.
     pub fn ask(&mut self, alloc: Global, name: &str) -> Result<(), NoMemory>
-        ensures ok { OnOk result (outside_of self.new ≡ record (outside_of self.old) { asked = (outside_of self.old).asked ++ name.now ∷ [] }) }
+        ensures ok { OnOk result (outside_of self.new ≡ record (outside_of self.old)
+            { asked = (outside_of self.old).asked ++ name.now ∷ [] }) }
         ensures room { OnOk result (vec_len self.new.files < vec_capacity self.new.files) }
         ensures err { OnErr result (outside_of self.new ≡ outside_of self.old) }
     {
@@ -40,7 +41,8 @@ impl<F: Drop> Shelf<F> {
     /// Adds a file in the room that `ask` made.
     pub fn add(&mut self, file: F)
         requires room { vec_len self.old.files < vec_capacity self.old.files }
-        ensures added { outside_of self.new ≡ record (outside_of self.old) { files = (outside_of self.old).files ++ file ∷ [] } }
+        ensures added { outside_of self.new ≡ record (outside_of self.old)
+            { files = (outside_of self.old).files ++ file ∷ [] } }
     {
         match self.files.push(file) {
             Ok(()) => {}

@@ -1,6 +1,7 @@
-ghost use Rattle.std.specs.Prelude.{None, Some, ℕ, ◌≡◌, ◌<◌, ◌≤◌, ◌-◌, ◌↔◌, [], length, min, IfOk, vec_capacity};
+// Where octets go: the trait, the loop that writes a whole text, and a sink in memory.
+ghost use Rattle.std.specs.Prelude.{None, ℕ, ◌≡◌, ◌<◌, ◌≤◌, ◌-◌, ◌↔◌, [], flat_map, length, min, IfOk, vec_capacity};
 ghost use Rattle.eb_io.specs.Reading.{Reading};
-ghost use Rattle.eb_io.specs.Writing.{Writing, Writes, WritesAll};
+ghost use Rattle.eb_io.specs.Writing.{Writing, Octets, Writes, Wrote};
 
 use crate::calls::Calls;
 use eb_base::NoMemory;
@@ -15,9 +16,13 @@ pub enum Put {
     Failed,
 }
 
+/// A write failed.
+#[derive(Clone, Copy, Debug, PartialEq, Eq)]
+pub struct WriteFault;
+
 /// Where octets go, in order.
 pub trait Sink {
-    /// What it tells: the octets that were written to it so far, where it tells them, and how many writes failed.
+    /// What it tells: of the octets that were written to it so far, and how many writes failed.
     ghost writing: { Self → Writing };
 
     /// What it tells of reads, where it is a source too. A write leaves that alone.
@@ -33,20 +38,29 @@ pub trait Sink {
         ensures beside { beside_writes self.new ≡ beside_writes self.old };
 }
 
-/// Writes all of the piece, in as many calls as the sink makes of it, and says whether all of it went out. At `false`
-/// a write failed, and a front of the piece went out before it.
-pub fn put_all<S: Sink>(sink: &mut S, piece: &[u8]) -> bool
-    ensures writes { WritesAll (S.writing sink.old) (S.writing sink.new) piece.now result }
-    ensures beside { S.beside_writes sink.new ≡ S.beside_writes sink.old }
+/// Writes all of the octets, in as many calls as the sink makes of them. Where a write fails, a front of them went out.
+pub fn put_all<S: Sink>(sink: &mut S, octets: &[u8]) -> Result<(), WriteFault>
+    ensures wrote { Wrote S.writing S.beside_writes sink.old sink.new octets.now result }
 {
-    let mut rest = piece;
+    let mut rest = octets;
     while !rest.is_empty() {
         match sink.write(rest) {
             Put::Some(count) => rest = &rest[count..],
-            Put::Failed => return false,
+            Put::Failed => return Err(WriteFault),
         }
     }
-    true
+    Ok(())
+}
+
+/// Writes pieces of octets, one after the other.
+pub fn put_each<S: Sink>(sink: &mut S, pieces: &[&[u8]]) -> Result<(), WriteFault>
+    ensures wrote { Wrote S.writing S.beside_writes sink.old sink.new
+        (flat_map (λ piece. piece.now) pieces.now) result }
+{
+    for piece in pieces {
+        put_all(sink, piece)?;
+    }
+    Ok(())
 }
 
 /// A sink in memory, which tells its octets.
@@ -73,7 +87,7 @@ impl MemSink {
         fails: Vec<u64>,
     ) -> Result<MemSink, NoMemory>
         requires some { 0 < most }
-        ensures tells { IfOk result (λ sink. writing_of sink ≡ record { written = Some []; faults = 0 }) }
+        ensures tells { IfOk result (λ sink. writing_of sink ≡ record { written = Octets []; faults = 0 }) }
         ensures plan { IfOk result (λ sink. plan_of sink ≡ record { most = most; fails = fails.items; next = 0 }) }
         ensures room { IfOk result (λ sink. room_of sink ≡ room) }
     {
@@ -88,7 +102,7 @@ impl MemSink {
 
     /// What was written so far.
     pub fn octets(&self) -> &[u8]
-        ensures written { (writing_of self.now).written ≡ Some result.now }
+        ensures written { (writing_of self.now).written ≡ Octets result.now }
     {
         &self.octets
     }

@@ -1,5 +1,6 @@
+// Where octets come from: the trait, reading to the end, and a source in memory.
 ghost use Rattle.std.specs.Prelude.{None, Some, ℕ, ◌≡◌, ◌<◌, ◌≤◌, ◌↔◌, ◌^◌, ◌-◌, [], length, min};
-ghost use Rattle.eb_io.specs.Writing.{Writing};
+ghost use Rattle.eb_io.specs.Writing.{Writing, Nothing};
 ghost use Rattle.eb_io.specs.Reading.{Reading, Reads, Gathers};
 
 use crate::calls::Calls;
@@ -22,7 +23,7 @@ pub trait Source {
     ghost reading: { Self → Reading };
 
     /// What it tells of writes, where it is a sink too. A read leaves that alone.
-    ghost beside_reads: { Self → Writing } = { λ _. record { written = None; faults = 0 } };
+    ghost beside_reads: { Self → Writing } = { λ _. record { written = Nothing; faults = 0 } };
 
     /// Puts the next octets at the front of the room, as many as it likes. The rest of the room may change.
     ///

@@ -1,3 +1,4 @@
+// All that a program meets outside by name: the trait, and a world in memory.
 ghost use Rattle.std.specs.Prelude.{◌≡◌, [], All};
 ghost use Rattle.eb_io.specs.Outside.{Outside, Opens};
 ghost use Rattle.eb_io.specs.Shelf.{outside_of};

@@ -1,5 +1,5 @@
-pub mod Giving
-pub mod Piece
-pub mod Drawing
-pub mod Spelled
-pub mod Counting
+pub mod GivingLemmas
+pub mod PieceLemmas
+pub mod DrawLemmas
+pub mod SpellingLemmas
+pub mod SummaryLemmas

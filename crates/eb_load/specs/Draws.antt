@@ -10,6 +10,6 @@ unfoldable pub drawn : ℕ → ℕ
 drawn x = next x / 65536
 
 -- the state after n draws
-abbrev pub after : ℕ → ℕ → ℕ
-after zero x = x
-after (suc n) x = after n (next x)
+abbrev pub state_after : ℕ → ℕ → ℕ
+state_after zero x = x
+state_after (suc n) x = state_after n (next x)

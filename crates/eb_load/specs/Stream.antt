@@ -7,7 +7,7 @@ use Rattle.eb_codec.specs.declared.item.Header.{Header}
 use Rattle.eb_codec.specs.declared.item.Record.{Record}
 use Rattle.eb_codec.specs.Form.{zeroed, header_form, record_form}
 use Rattle.eb_codec.specs.Stream.{StreamItem, Headed, Recorded, SpellsAll}
-use Rattle.eb_load.specs.Draws.{drawn, next, after}
+use Rattle.eb_load.specs.Draws.{drawn, next, state_after}
 
 -- the header: replies are wanted, addresses and the port have 32 bits
 abbrev pub load_header : Header
@@ -22,11 +22,11 @@ write_count x = 1 + drawn x % 4
 
 -- the address of its first write: a word with three more behind it in the RAM
 abbrev pub write_base : ℕ → ℕ
-write_base x = 4 * (drawn (after 1 x) % 16380)
+write_base x = 4 * (drawn (state_after 1 x) % 16380)
 
 -- how many words it reads: 1 to 4
 abbrev pub read_count : ℕ → ℕ
-read_count x = 1 + drawn (after 2 x) % 4
+read_count x = 1 + drawn (state_after 2 x) % 4
 
 -- n values, each of two draws: its high half, then its low half
 abbrev pub values_from : ℕ → ℕ → List ℕ
@@ -40,10 +40,10 @@ addresses_from (suc n) x = (4 * (drawn x % 16384)) ∷ addresses_from n (next x)
 
 -- the state behind a record's values, and that behind all its draws
 abbrev pub after_values : ℕ → ℕ
-after_values x = after (2 * write_count x) (after 3 x)
+after_values x = state_after (2 * write_count x) (state_after 3 x)
 
 unfoldable pub after_record : ℕ → ℕ
-after_record x = after (read_count x) (after_values x)
+after_record x = state_after (read_count x) (after_values x)
 
 -- The record whose draws begin at this state. Its flags are BCA and CYC: the reply's base is in configuration space, and
 -- each record is a bus cycle by itself. All four octets of the port are enabled.
@@ -51,14 +51,14 @@ unfoldable pub load_record : ℕ → Record
 load_record x = record {
   head = record { flags = BCA + CYC; enable = 0x0F; writes = write_count x; reads = read_count x };
   write_base = write_base x;
-  values = values_from (write_count x) (after 3 x);
+  values = values_from (write_count x) (state_after 3 x);
   return_base = 0;
   addresses = addresses_from (read_count x) (after_values x);
 }
 
 -- its octets, with zeros for padding
-unfoldable pub record_octets : ℕ → List ℕ
-record_octets x = zeroed (record_form load_header (load_record x))
+unfoldable pub load_record_octets : ℕ → List ℕ
+load_record_octets x = zeroed (record_form load_header (load_record x))
 
 -- n records
 abbrev pub record_items : ℕ → ℕ → List StreamItem
@@ -67,7 +67,7 @@ record_items (suc n) x = Recorded (load_record x) ∷ record_items n (after_reco
 
 abbrev pub octets_of_records : ℕ → ℕ → List ℕ
 octets_of_records zero x = []
-octets_of_records (suc n) x = record_octets x ++ octets_of_records n (after_record x)
+octets_of_records (suc n) x = load_record_octets x ++ octets_of_records n (after_record x)
 
 -- the stream of so many records whose draws begin at this state
 abbrev pub load_items : ℕ → ℕ → List StreamItem

@@ -1,3 +1,4 @@
+// The numbers that a generated stream is made of.
 ghost use Rattle.std.specs.Prelude.{◌≡◌, ◌<◌, ◌^◌};
 ghost use Rattle.eb_load.specs.Draws.{next, drawn};
 
@@ -10,6 +11,7 @@ pub struct Draws {
 }
 
 impl Model for Draws {
+    // The numbers that a generated stream is made of.
     ghost use Rattle.std.specs.Prelude.{ℕ};
 
     ghost Value = { ℕ };

@@ -1,9 +1,9 @@
+// The generated stream as a source.
 ghost use Rattle.std.specs.Prelude.{Some, IfSome, [], ◌≡◌, ◌≢◌, ◌<◌, ◌≤◌, ◌^◌, ◌++◌, length, take, drop};
 ghost use Rattle.eb_io.specs.Reading.{Reads};
 ghost use Rattle.eb_load.specs.Stream.{load_octets, octets_of_records};
 
 use crate::draws::Draws;
-use crate::octets::put;
 use crate::record::{Piece, next_record};
 use eb_codec::flags::{MAGIC, VERSION};
 use eb_io::{Got, Source};
@@ -20,46 +20,46 @@ pub struct LoadSource {
     records: u32,
     piece: Piece,
     at: usize,
-    ghost within: { at ≤ length piece.items },
+    ghost within: { at ≤ length piece },
     ghost short: { length (load_octets start total) < 2 ^ 64 },
     ghost few: { given ≤ length (load_octets start total) },
-    ghost parts: { load_octets start total ≡ take given (load_octets start total) ++ (drop at piece.items ++ octets_of_records records draws) },
+    ghost parts: { load_octets start total ≡ take given (load_octets start total)
+        ++ (drop at piece ++ octets_of_records records draws) },
 }
 
 impl LoadSource {
-    ghost use Rattle.eb_load.specs.LoadSource.{given_of, left_of, reading_of};
+    ghost use Rattle.eb_load.specs.LoadSource.{load_given, load_left, load_reading};
 
     /// The stream of so many records, whose draws begin at `start`.
     pub fn new(start: u32, records: u32) -> LoadSource
-        ensures tells { reading_of result ≡ record { given = Some []; left = Some (load_octets start records); faults = 0 } }
+        ensures tells { load_reading result
+            ≡ record { given = Some []; left = Some (load_octets start records); faults = 0 } }
     {
-        let mut piece = Piece::new();
-        put(&mut piece, &[MAGIC[0], MAGIC[1], VERSION, 0x44]);
         LoadSource {
             start,
             total: records,
             given: 0,
             draws: Draws::from(start),
             records,
-            piece,
+            piece: Piece::of(&[MAGIC[0], MAGIC[1], VERSION, 0x44]),
             at: 0,
         }
     }
 
     /// How many octets it gave.
     pub fn given(&self) -> u64
-        ensures count { IfSome (reading_of self.now).given (λ octets. result ≡ length octets) }
+        ensures count { IfSome (load_reading self.now).given (λ octets. result ≡ length octets) }
     {
         self.given
     }
 
     // Makes the next record, where all octets of the piece were given. What is left stays the same.
     fn advance(&mut self)
-        requires given { self.old.at ≡ length self.old.piece.items }
+        requires given { self.old.at ≡ length self.old.piece }
         requires more { 0 < self.old.records }
-        ensures left { left_of self.new ≡ left_of self.old }
-        ensures given { given_of self.new ≡ given_of self.old }
-        ensures some { self.new.at < length self.new.piece.items }
+        ensures left { load_left self.new ≡ load_left self.old }
+        ensures given { load_given self.new ≡ load_given self.old }
+        ensures some { self.new.at < length self.new.piece }
     {
         self.piece = next_record(&mut self.draws);
         self.records -= 1;
@@ -69,11 +69,11 @@ impl LoadSource {
     // Gives octets of the piece, of which some are left.
     fn give(&mut self, room: &mut [u8]) -> usize
         requires some_room { 0 < length room.old }
-        requires some_left { self.old.at < length self.old.piece.items }
+        requires some_left { self.old.at < length self.old.piece }
         ensures some { 0 < result }
         ensures room { result ≤ length room.new }
-        ensures octets { left_of self.old ≡ take result room.new ++ left_of self.new }
-        ensures given { given_of self.new ≡ given_of self.old ++ take result room.new }
+        ensures octets { load_left self.old ≡ take result room.new ++ load_left self.new }
+        ensures given { load_given self.new ≡ load_given self.old ++ take result room.new }
     {
         let at = self.at;
         let count = room.len().min(self.piece.len() - at);
@@ -85,14 +85,14 @@ impl LoadSource {
 }
 
 impl Source for LoadSource {
-    ghost use Rattle.eb_load.specs.LoadSource.{reading_of};
+    ghost use Rattle.eb_load.specs.LoadSource.{load_reading};
 
-    ghost reading = { reading_of };
+    ghost reading = { load_reading };
 
     /// Gives as many octets as the room takes of the header or of one record. It never answers `Failed`.
     fn read(&mut self, room: &mut [u8]) -> Got
         requires some_room { 0 < length room.old }
-        ensures reads { Reads (reading_of self.old) (reading_of self.new) room.new result }
+        ensures reads { Reads (load_reading self.old) (load_reading self.new) room.new result }
         ensures never_fails { result ≢ Got.Failed }
     {
         if self.at == self.piece.len() {

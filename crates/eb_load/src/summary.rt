@@ -1,18 +1,15 @@
+// What is counted of a run, and its text.
 ghost use Rattle.std.specs.Prelude.{◌≡◌, ◌≤◌, ◌+◌, ◌++◌, ◌∷◌, [], length, decimal, if◌then◌else◌};
-ghost use Rattle.arrayvec.specs.ArrayVec.{array_vec_len};
-ghost use Rattle.eb_io.specs.Writing.{WritesAll};
-ghost use Rattle.soc_journal.specs.Text.{line, digits_16};
+ghost use Rattle.eb_io.specs.Text.{line};
+ghost use Rattle.eb_io.specs.Writing.{Wrote};
 ghost use Rattle.eb_load.specs.Summary.{is_refusal, word_in, totals, joined, operations, summary, summary_text};
 
-use crate::octets::put;
-use arrayvec::ArrayVec;
-use eb_io::{Sink, put_all};
-use itoa::Buffer;
-use soc_journal::{Entry, Journal, Pair, digits_16};
+use eb_io::{Line, Sink, WriteFault, put_all};
+use soc_journal::{Entry, Journal, Pair};
 use wb_signals::Answer;
 
-/// What is counted of a run: its cycles, and of their operations the writes, the reads and those answered ERR or RTY; the
-/// octets that came in and went out; and the sum of the words read, modulo 2^64.
+/// What is counted of a run: its cycles, and of their operations the writes, the reads and those answered ERR or RTY;
+/// the octets that came in and went out; and the sum of the words read, modulo 2^64.
 ///
 /// A count stands still at `2^64 - 1`.
 #[derive(Clone, Copy, Debug, PartialEq, Eq)]
@@ -43,7 +40,7 @@ const NOTHING: Totals = Totals {
 };
 
 // The text of a summary: seven lines, of which the longest has 32 octets.
-type Text = ArrayVec<u8, 200>;
+type Text = Line<200>;
 
 // How many refusals an answer is: one or none.
 fn refusals(answer: Answer) -> u64
@@ -117,39 +114,30 @@ fn totals_of_entries(entries: &[Entry]) -> Totals
     all
 }
 
-// Appends a line with a name and a count.
+// Adds a line with a name and a count.
 fn put_count(out: &mut Text, name: &[u8], count: u64)
-    requires room { array_vec_len out.old + length name.now + 21 ≤ 200 }
-    ensures items { out.new.items ≡ out.old.items ++ line (name.now ++ decimal count) }
-    ensures len { array_vec_len out.new ≤ array_vec_len out.old + length name.now + 21 }
+    requires room { length out.old + length name.now + 21 ≤ 200 }
+    ensures added { out.new ≡ out.old ++ line (name.now ++ decimal count) }
+    ensures len { length out.new ≤ length out.old + length name.now + 21 }
 {
-    let mut digits = Buffer::new();
-    put(out, name);
-    put(out, digits.format(count).as_bytes());
-    put(out, b"\n");
-}
-
-// Appends a line with a name and a number of 16 hexadecimal digits.
-fn put_digits(out: &mut Text, name: &[u8], number: u64)
-    requires room { array_vec_len out.old + length name.now + 17 ≤ 200 }
-    ensures items { out.new.items ≡ out.old.items ++ line (name.now ++ digits_16 number) }
-{
-    put(out, name);
-    put(out, &digits_16(number));
-    put(out, b"\n");
+    out.put(name);
+    out.put_decimal(count);
+    out.put(b"\n");
 }
 
 fn text(summary: &Summary) -> Text
-    ensures value { result.items ≡ summary_text summary.now }
+    ensures value { result ≡ summary_text summary.now }
 {
-    let mut out = Text::new();
+    let mut out = Text::of(b"");
     put_count(&mut out, b"cycles ", summary.cycles);
     put_count(&mut out, b"writes ", summary.writes);
     put_count(&mut out, b"reads ", summary.reads);
     put_count(&mut out, b"octets-in ", summary.octets_in);
     put_count(&mut out, b"octets-out ", summary.octets_out);
     put_count(&mut out, b"errors ", summary.errors);
-    put_digits(&mut out, b"sum ", summary.sum);
+    out.put(b"sum ");
+    out.put_word(summary.sum);
+    out.put(b"\n");
     out
 }
 
@@ -170,13 +158,11 @@ impl Summary {
         }
     }
 
-    /// Writes the summary as text, a line a number: `cycles`, `writes`, `reads`, `octets-in`, `octets-out` and `errors` in
-    /// decimal, and `sum` in 16 hexadecimal digits. It takes no memory.
-    ///
-    /// It says whether the whole text went out. At `false` a write failed, after a front of the text.
-    pub fn write<K: Sink>(&self, sink: &mut K) -> bool
-        ensures writes { WritesAll (K.writing sink.old) (K.writing sink.new) (summary_text self.now) result }
-        ensures beside { K.beside_writes sink.new ≡ K.beside_writes sink.old }
+    /// Writes the summary as text, a line a number: `cycles`, `writes`, `reads`, `octets-in`, `octets-out` and `errors`
+    /// in decimal, and `sum` in 16 hexadecimal digits. Where a write fails, a front of the text went out. It takes no
+    /// memory.
+    pub fn write<K: Sink>(&self, sink: &mut K) -> Result<(), WriteFault>
+        ensures wrote { Wrote K.writing K.beside_writes sink.old sink.new (summary_text self.now) result }
     {
         put_all(sink, text(self).as_slice())
     }

@@ -10,7 +10,7 @@ use Rattle.serde_json.specs.Read.{read as read_text}
 use Rattle.eb_base.specs.declared.width.Width.{Width}
 use Rattle.eb_io.specs.Counts.{Rose}
 use Rattle.eb_io.specs.Reading.{Reading, Gave}
-use Rattle.eb_io.specs.Writing.{Writing, WritesAll}
+use Rattle.eb_io.specs.Writing.{Writing}
 use Rattle.eb_io.specs.Outside.{Outside}
 use Rattle.wb_signals.specs.History.{Entry}
 use Rattle.eb_session.specs.Replies.{sets_of}
@@ -24,14 +24,14 @@ use Rattle.soc_desc.specs.Described.{described, checked, json_or, most_octets}
 use Rattle.soc_desc.specs.declared.description.Description.{Description}
 use Rattle.soc_desc.specs.declared.fault.DescFault.{DescFault}
 use Rattle.soc_desc.specs.declared.fault.DescFault.TheVariants as desc
-use Rattle.eb_text.specs.Words.{Command, AnswerRam, Answer, Build, Load, Show}
+use Rattle.eb_text.specs.Command.{Command, AnswerRam, Answer, Build, Load, Show}
 use Rattle.eb_text.specs.declared.fault.Fault.{Fault}
 use Rattle.eb_text.specs.declared.fault.Fault.TheVariants as fault
 use Rattle.eb_run.specs.Run.{Run}
 use Rattle.eb_run.specs.Files.{ReadToEnd, ReadsDescription}
 use Rattle.eb_run.specs.Streams.{System, ServedOn, ServedCapture, AnswersCapture, ram_system, described_system}
 use Rattle.eb_run.specs.Commands.{SendsText, MakesText, ComesTo}
-use Rattle.eb_run.specs.Steps.{result_of, result_of_write}
+use Rattle.eb_run.specs.Steps.{result_of}
 use Rattle.eb_run.specs.Top.{HoldsOctets, AllHold, IsQuiet, IsRefused, EndsWith, Decides}
 
 -- ---- what a source told
@@ -149,12 +149,9 @@ read_ill reading old new name f no_open no_read (inr (inr (inr (octets, read, in
 
 -- ---- texts
 
-text_well : (text : List ℕ) (out out' : Writing) (r : Result ⊤ Fault) (all : Bool) → (Rose out.faults out'.faults → ⊥) → WritesAll out out' text all → r ≡ result_of_write all → r ≡ Ok tt
-text_well text out out' r true fine wrote is = is
-text_well text out out' r false fine wrote is = absurd (fine wrote.rose)
-
 pub shown_well : (text : List ℕ) (out out' : Writing) (r : Result ⊤ Fault) → (Rose out.faults out'.faults → ⊥) → SendsText out out' text r → r ≡ Ok tt
-shown_well text out out' r fine wrote = text_well text out out' r wrote.0 fine wrote.1 wrote.2
+shown_well text out out' (Ok done) fine sends = refl
+shown_well text out out' (Err f) fine sends = absurd (fine sends.1.rose)
 
 made_well : (is_text : List ℕ → Type 0) (out out' : Writing) (r : Result ⊤ Fault) → (Rose out.faults out'.faults → ⊥) → MakesText out out' is_text r → (r ≡ Err fault.NoMemory) ⊎ (r ≡ Ok tt)
 made_well is_text out out' r fine (inl none) = inl none.0

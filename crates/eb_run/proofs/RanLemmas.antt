@@ -1,5 +1,5 @@
 -- What the result of a command says of its status.
-use Rattle.std.proofs.Common.{◌≡◌, ◌⊎◌, inl, inr, ℕ, List, Bool, true, false, Result, Ok, Err, sym, ◌∙◌, ap, subst, rules}
+use Rattle.std.proofs.Common.{◌≡◌, ◌⊎◌, inl, inr, ℕ, List, Result, Ok, Err, sym, ◌∙◌, ap, subst, rules}
 use Rattle.std.specs.Prelude.{◌↔◌, ⊤}
 use Rattle.eb_io.specs.Counts.{Rose}
 use Rattle.eb_io.specs.Reading.{Reading}
@@ -7,7 +7,7 @@ use Rattle.eb_io.specs.Writing.{Writing}
 use Rattle.eb_io.specs.Outside.{Outside}
 use Rattle.eb_server.specs.declared.ending.Ending.{Ending}
 use Rattle.eb_server.specs.declared.ending.Ending.TheVariants as ending
-use Rattle.eb_text.specs.Words.{Command, AnswerRam, Answer, Build, Load, Show, IsCommand, IsNoCommand, OneCommand}
+use Rattle.eb_text.specs.Command.{Command, AnswerRam, Answer, Build, Load, Show, IsCommand, IsNoCommand, OneCommand}
 use Rattle.eb_text.specs.declared.status.Status.{Status}
 use Rattle.eb_text.specs.declared.status.TheConstants.Status as status
 use Rattle.eb_text.specs.declared.fault.Fault.{Fault}
@@ -15,8 +15,8 @@ use Rattle.eb_text.specs.declared.fault.Fault.TheVariants as fault
 use Rattle.eb_run.specs.Run.{Run}
 use Rattle.eb_run.specs.Files.{NotOpened, ReadsDescription}
 use Rattle.eb_run.specs.Streams.{System, AnswersCapture}
-use Rattle.eb_run.specs.Steps.{result_of, result_of_write}
-use Rattle.eb_run.specs.Commands.{MakesText, ComesTo}
+use Rattle.eb_run.specs.Steps.{result_of}
+use Rattle.eb_run.specs.Commands.{SendsText, MakesText, ComesTo}
 use Rattle.eb_run.specs.Top.{WordsComeTo, status_for, Tells, Came, IsQuiet, Decides, RanWords}
 use Rattle.eb_run.proofs.StatusLemmas.{Has, MayCome, Known, known, known_usage}
 use Rattle.eb_run.proofs.QuietLemmas.{decided, one_answer, shown_well}
@@ -36,9 +36,9 @@ may_end ending.WriteFault = tt
 may_end ending.TooLong = tt
 may_end ending.NoMemory = tt
 
-may_write : (all : Bool) → MayCome (result_of_write all)
-may_write true = tt
-may_write false = tt
+may_send : (text : List ℕ) (out out' : Writing) (r : Result ⊤ Fault) → SendsText out out' text r → MayCome r
+may_send text out out' (Ok done) sends = tt
+may_send text out out' (Err f) sends = subst (λ (x : Fault). MayCome (Err x)) (sym sends.0) tt
 
 may_not_open : {F : Type 0} (old new : Outside F) (name : List ℕ) (r : Result ⊤ Fault) → NotOpened old new name r → MayCome r
 may_not_open old new name r (inl (is, failed)) = subst MayCome (sym is) tt
@@ -50,7 +50,7 @@ may_answer run capture system r (inr (e, served, is)) = subst MayCome (sym is) (
 
 may_make : (is_text : List ℕ → Type 0) (out out' : Writing) (r : Result ⊤ Fault) → MakesText out out' is_text r → MayCome r
 may_make is_text out out' r (inl none) = subst MayCome (sym none.0) tt
-may_make is_text out out' r (inr (text, is, wrote)) = subst MayCome (sym wrote.2) (may_write wrote.0)
+may_make is_text out out' r (inr (text, is, wrote)) = may_send text out out' r wrote
 
 fault_of : (f g : Fault) → ◌≡◌ {A = Result ⊤ Fault} (Err f) (Err g) → f ≡ g
 fault_of f g is = cc
@@ -73,7 +73,7 @@ may_come run (Answer name capture) r (inr (d, between, reads, answers)) = may_an
 may_come run (Build name) r (inl (f, is, reads, same)) = subst MayCome (sym is) (may_read run.reading run.world run.world' name f reads)
 may_come run (Build name) r (inr (d, between, reads, (same, makes))) = may_make _ run.out run.out' r makes
 may_come run (Load start cycles) r (same, makes) = may_make _ run.out run.out' r makes
-may_come run (Show text) r (same, writes) = subst MayCome (sym writes.2) (may_write writes.0)
+may_come run (Show text) r (same, writes) = may_send text run.out run.out' r writes
 
 -- ---- the fields of a run
 

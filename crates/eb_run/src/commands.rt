@@ -1,17 +1,16 @@
 // The commands, behind their words.
 ghost use Rattle.std.specs.Prelude.{map, string_bytes};
-ghost use Rattle.eb_text.specs.Words.{AnswerRam, Answer, Build, IsRamSize};
+ghost use Rattle.eb_text.specs.Command.{AnswerRam, Answer, Build, IsRamSize};
 ghost use Rattle.eb_run.specs.Run.{run_of};
-ghost use Rattle.eb_run.specs.Commands.{ComesTo};
+ghost use Rattle.eb_run.specs.Commands.{ComesTo, SendsText};
 ghost use Rattle.eb_run.specs.Top.{WordsComeTo};
 
 use crate::files::read_description;
 use crate::load::load;
-use crate::results::written;
 use crate::slave::PlainSlave;
 use crate::streams::answer_capture;
 use eb_io::{Sink, World, put_all};
-use eb_text::{Fault, Words, command_of, write_build};
+use eb_text::{Command, Fault, command_of, write_build};
 use sdb_build::images;
 use soc_machine::Machine;
 use std::alloc::Global;
@@ -75,7 +74,16 @@ fn build<W: World, O: Sink>(
     let Ok(images) = images(alloc, &found) else {
         return Err(Fault::NoMemory);
     };
-    written(write_build(&images, out))
+    write_build(&images, out)?;
+    Ok(())
+}
+
+// `--help` and `--version`
+fn show<O: Sink>(text: &[u8], out: &mut O) -> Result<(), Fault>
+    ensures shows { SendsText (O.writing out.old) (O.writing out.new) text.now result }
+{
+    put_all(out, text)?;
+    Ok(())
 }
 
 /// Runs the command that the words are.
@@ -93,13 +101,13 @@ pub fn run_words<W: World, O: Sink>(
         return Err(Fault::Usage);
     };
     match command {
-        Words::AnswerRam { octets, capture } => answer_ram(alloc, octets, capture, world, out),
-        Words::Answer {
+        Command::AnswerRam { octets, capture } => answer_ram(alloc, octets, capture, world, out),
+        Command::Answer {
             description,
             capture,
         } => answer(alloc, description, capture, world, out),
-        Words::Build { description } => build(alloc, description, world, out),
-        Words::Load { start, cycles } => load(alloc, start, cycles, out),
-        Words::Show(text) => written(put_all(out, text)),
+        Command::Build { description } => build(alloc, description, world, out),
+        Command::Load { start, cycles } => load(alloc, start, cycles, out),
+        Command::Show(text) => show(text, out),
     }
 }

@@ -5,10 +5,9 @@ ghost use Rattle.soc_machine.specs.Machine.{built_with_ram};
 ghost use Rattle.eb_run.specs.Slave.{IsMade};
 ghost use Rattle.eb_run.specs.Commands.{MakesText, Summed};
 
-use crate::results::written;
 use crate::slave::PlainSlave;
 use eb_base::NoMemory;
-use eb_io::{MemSink, Sink};
+use eb_io::{CountSink, Sink};
 use eb_load::{LoadSource, Summary};
 use eb_server::Ending;
 use eb_text::Fault;
@@ -18,12 +17,7 @@ use std::alloc::Global;
 // How many octets the RAM has.
 const RAM: u32 = 65_536;
 
-// The octets of the reply to the header, and the most of one to a record, which reads four words.
-const HEADER_REPLY: usize = 4;
-
-const RECORD_REPLY: usize = 24;
-
-// Serves a generated stream, keeps the replies in memory, and counts.
+// Serves a generated stream and counts.
 fn summary_of(
     alloc: Global,
     start: u32,
@@ -33,16 +27,12 @@ fn summary_of(
     requires made { IsMade (built_with_ram 65536) 0 slave.old }
     ensures summed { IfOk result (λ s. Summed start cycles (summary_text s)) }
 {
-    let room = HEADER_REPLY + RECORD_REPLY * cycles as usize;
-    let mut replies = MemSink::new(alloc, room, usize::MAX, Vec::new(alloc))?;
     let mut source = LoadSource::new(start, cycles);
+    let mut replies = CountSink::new();
     match slave.serve(alloc, &mut source, &mut replies) {
-        Ending::Clean => Ok(Summary::of(
-            slave.journal(),
-            source.given(),
-            replies.octets().len() as u64,
-        )),
-        Ending::WriteFault | Ending::NoMemory => Err(NoMemory),
+        Ending::Clean => Ok(Summary::of(slave.journal(), source.given(), replies.count())),
+        Ending::NoMemory => Err(NoMemory),
+        Ending::WriteFault => unreachable!(),
         Ending::Truncated(_) => unreachable!(),
         Ending::Malformed(..) => unreachable!(),
         Ending::ReadFault => unreachable!(),
@@ -60,8 +50,9 @@ pub fn load<O: Sink>(alloc: Global, start: u32, cycles: u32, out: &mut O) -> Res
     let Ok(mut slave) = PlainSlave::new(alloc, machine, 0) else {
         return Err(Fault::NoMemory);
     };
-    match summary_of(alloc, start, cycles, &mut slave) {
-        Err(_) => Err(Fault::NoMemory),
-        Ok(summary) => written(summary.write(out)),
-    }
+    let Ok(summary) = summary_of(alloc, start, cycles, &mut slave) else {
+        return Err(Fault::NoMemory);
+    };
+    summary.write(out)?;
+    Ok(())
 }

@@ -1,6 +1,6 @@
-pub mod Commands
-pub mod Digits
-pub mod Items
-pub mod Joined
-pub mod Tables
-pub mod RecordLines
+pub mod CommandLemmas
+pub mod DecimalLemmas
+pub mod ItemLemmas
+pub mod LineLemmas
+pub mod TableLemmas
+pub mod RecordLemmas

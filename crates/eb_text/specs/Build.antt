@@ -1,8 +1,7 @@
 -- The build text: the ROM images of a description, as text.
 use Rattle.std.specs.Prelude.{◌≡◌, ℕ, zero, suc, ◌/◌, List, [], ◌∷◌, ◌++◌, length, take, drop, codes, decimal}
 use Rattle.std.specs.List.{All}
-use Rattle.hex.specs.Hex.{encode_upper}
-use Rattle.soc_journal.specs.Text.{line, digits_16}
+use Rattle.eb_io.specs.Text.{line, hex_text, digits_16}
 use Rattle.soc_desc.specs.declared.description.Description.{Description}
 use Rattle.soc_desc.specs.Accepted.{IsAccepted}
 use Rattle.sdb_record.specs.declared.kinds.Record.{Record}
@@ -21,7 +20,7 @@ record_count octets = length octets / 64
 -- so many records, each as 128 hexadecimal digits on a line
 abbrev pub record_lines : ℕ → List ℕ → List ℕ
 record_lines zero octets = []
-record_lines (suc n) octets = line (encode_upper (take 64 octets)) ++ record_lines n (drop 64 octets)
+record_lines (suc n) octets = line (hex_text (take 64 octets)) ++ record_lines n (drop 64 octets)
 
 -- where a table stands, in 16 hexadecimal digits, and how many records it has, in decimal
 abbrev pub table_line : ℕ → ℕ → List ℕ
@@ -40,7 +39,7 @@ build_text (image ∷ images) = table_text image.at image.octets ++ build_text i
 
 -- the octets of a record, in hexadecimal digits on a line
 abbrev pub record_line : Record → List ℕ
-record_line r = line (encode_upper (encoded wishbone r))
+record_line r = line (hex_text (encoded wishbone r))
 
 abbrev pub lines_of_records : List Record → List ℕ
 lines_of_records [] = []

@@ -1,4 +1,4 @@
 pub mod Texts
-pub mod Words
+pub mod Command
 pub mod Lines
 pub mod Build

@@ -1,6 +1,6 @@
 -- How a command ends otherwise than well: its status, and its line on standard error.
 use Rattle.std.specs.Prelude.{ℕ, List, ◌++◌, codes, decimal}
-use Rattle.soc_journal.specs.Text.{line}
+use Rattle.eb_io.specs.Text.{line}
 use Rattle.soc_desc.specs.declared.fault.DescFault.{DescFault}
 use Rattle.soc_desc.specs.declared.fault.DescFault.TheVariants as desc
 use Rattle.eb_codec.specs.declared.item.Why.{Why}

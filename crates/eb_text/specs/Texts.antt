@@ -1,6 +1,6 @@
 -- The texts that the program shows.
 use Rattle.std.specs.Prelude.{ℕ, List, [], ◌++◌, codes}
-use Rattle.soc_journal.specs.Text.{line}
+use Rattle.eb_io.specs.Text.{line}
 
 -- what `--version` shows
 abbrev pub version_text : List ℕ

@@ -1,7 +1,10 @@
+// How a command ends otherwise than well.
 ghost use Rattle.std.specs.Prelude.{◌≡◌};
+ghost use Rattle.eb_text.specs.declared.fault.Fault.TheVariants as fault;
 
 use crate::status::Status;
 use eb_codec::Why;
+use eb_io::WriteFault;
 use soc_desc::DescFault;
 
 /// How a command ended otherwise than well.
@@ -43,5 +46,13 @@ impl Fault {
             Fault::TooLong => Status::TOO_LONG,
             Fault::NoMemory => Status::NO_MEMORY,
         }
+    }
+}
+
+impl From<WriteFault> for Fault {
+    ghost from_gives = { λ _ e. e ≡ fault.WriteFault };
+
+    fn from(_fault: WriteFault) -> Fault {
+        Fault::WriteFault
     }
 }

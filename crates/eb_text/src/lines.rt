@@ -1,34 +1,18 @@
-// Writes how a command ended.
-ghost use Rattle.std.specs.Prelude.{◌≡◌, ◌++◌, codes};
-ghost use Rattle.eb_io.specs.Writing.{WritesAll};
-ghost use Rattle.soc_journal.specs.Text.{line};
+// The lines that tell how a command ended.
+ghost use Rattle.std.specs.Prelude.{◌≡◌, ◌≤◌, ◌++◌, codes, length};
+ghost use Rattle.eb_io.specs.Text.{line};
+ghost use Rattle.eb_io.specs.Writing.{Wrote};
 ghost use Rattle.eb_text.specs.Lines.{line_of, malformed_line, refusal, refusal_line, rule_text, truncated_line};
 
 use crate::fault::Fault;
 use eb_codec::Why;
-use eb_io::{Sink, put_all};
-use itoa::Buffer;
+use eb_io::{Line, Sink, WriteFault, put_all, put_each};
 use soc_desc::{DescFault, Path};
-
-// Writes a text and then another.
-fn put_two<K: Sink>(first: &[u8], second: &[u8], sink: &mut K) -> bool
-    ensures writes { WritesAll (K.writing sink.old) (K.writing sink.new) (first.now ++ second.now) result }
-    ensures beside { K.beside_writes sink.new ≡ K.beside_writes sink.old }
-{
-    put_all(sink, first) && put_all(sink, second)
-}
-
-// Writes three texts, one after the other.
-fn put_three<K: Sink>(first: &[u8], second: &[u8], third: &[u8], sink: &mut K) -> bool
-    ensures writes { WritesAll (K.writing sink.old) (K.writing sink.new) (first.now ++ second.now ++ third.now) result }
-    ensures beside { K.beside_writes sink.new ≡ K.beside_writes sink.old }
-{
-    put_two(first, second, sink) && put_all(sink, third)
-}
 
 // The text of a rule of a stream.
 fn rule_text(rule: Why) -> &'static [u8]
     ensures text { result.now ≡ rule_text rule }
+    ensures short { length result.now ≤ 27 }
 {
     match rule {
         Why::Magic => b"wrong magic",
@@ -43,60 +27,73 @@ fn rule_text(rule: Why) -> &'static [u8]
     }
 }
 
-// Writes a text and the end of its line.
-pub fn put_line<K: Sink>(text: &[u8], sink: &mut K) -> bool
-    ensures writes { WritesAll (K.writing sink.old) (K.writing sink.new) (line text.now) result }
-    ensures beside { K.beside_writes sink.new ≡ K.beside_writes sink.old }
+// Where a stream breaks a rule, and which.
+fn malformed_line(place: u64, rule: Why) -> Line<64>
+    ensures value { result ≡ malformed_line place rule }
 {
-    put_two(text, b"\n", sink)
+    let mut line = Line::of(b"malformed at ");
+    line.put_decimal(place);
+    line.put(b": ");
+    line.put(rule_text(rule));
+    line.put(b"\n");
+    line
 }
 
-// Writes a line of four texts.
-pub fn put_line_of<K: Sink>(
-    first: &[u8],
-    second: &[u8],
-    third: &[u8],
-    fourth: &[u8],
-    sink: &mut K,
-) -> bool
-    ensures writes { WritesAll (K.writing sink.old) (K.writing sink.new) (line (first.now ++ second.now ++ third.now ++ fourth.now)) result }
-    ensures beside { K.beside_writes sink.new ≡ K.beside_writes sink.old }
+// How much of an item the input had.
+fn truncated_line(octets: u64) -> Line<64>
+    ensures value { result ≡ truncated_line octets }
 {
-    put_three(first, second, third, sink) && put_line(fourth, sink)
+    let mut line = Line::of(b"truncated after ");
+    line.put_decimal(octets);
+    line.put(b" octets of an item");
+    line.put(b"\n");
+    line
+}
+
+// Writes a text and the end of its line.
+fn put_line<K: Sink>(text: &[u8], sink: &mut K) -> Result<(), WriteFault>
+    ensures wrote { Wrote K.writing K.beside_writes sink.old sink.new (line text.now) result }
+{
+    put_each(sink, &[text, b"\n"])
 }
 
 // Writes why a description is refused, and where.
-fn write_refusal<K: Sink>(reason: &[u8], path: &Path, sink: &mut K) -> bool
-    ensures writes { WritesAll (K.writing sink.old) (K.writing sink.new) (refusal reason.now path.now) result }
-    ensures beside { K.beside_writes sink.new ≡ K.beside_writes sink.old }
+fn write_refusal<K: Sink>(reason: &[u8], path: &Path, sink: &mut K) -> Result<(), WriteFault>
+    ensures wrote { Wrote K.writing K.beside_writes sink.old sink.new (refusal reason.now path.now) result }
 {
-    put_line_of(
-        b"description refused: ",
-        reason,
-        b" ", // also before an empty path
-        path.as_slice(),
+    // The space stands also before an empty path.
+    put_each(
         sink,
+        &[
+            b"description refused: ",
+            reason,
+            b" ",
+            path.as_slice(),
+            b"\n",
+        ],
     )
 }
 
 // Writes that two places meet.
-fn write_overlap<K: Sink>(path: &Path, other: &Path, sink: &mut K) -> bool
-    ensures writes { WritesAll (K.writing sink.old) (K.writing sink.new) (refusal (codes "overlap " ++ path.now) other.now) result }
-    ensures beside { K.beside_writes sink.new ≡ K.beside_writes sink.old }
+fn write_overlap<K: Sink>(path: &Path, other: &Path, sink: &mut K) -> Result<(), WriteFault>
+    ensures wrote { Wrote K.writing K.beside_writes sink.old sink.new
+        (refusal (codes "overlap " ++ path.now) other.now) result }
 {
-    put_line_of(
-        b"description refused: overlap ",
-        path.as_slice(),
-        b" ",
-        other.as_slice(),
+    put_each(
         sink,
+        &[
+            b"description refused: overlap ",
+            path.as_slice(),
+            b" ",
+            other.as_slice(),
+            b"\n",
+        ],
     )
 }
 
 // Writes the line of a refused description.
-fn write_refused<K: Sink>(fault: &DescFault, sink: &mut K) -> bool
-    ensures writes { WritesAll (K.writing sink.old) (K.writing sink.new) (refusal_line fault.now) result }
-    ensures beside { K.beside_writes sink.new ≡ K.beside_writes sink.old }
+fn write_refused<K: Sink>(fault: &DescFault, sink: &mut K) -> Result<(), WriteFault>
+    ensures wrote { Wrote K.writing K.beside_writes sink.old sink.new (refusal_line fault.now) result }
 {
     match fault {
         DescFault::NotJson => put_line(b"description refused: not json", sink),
@@ -113,39 +110,18 @@ fn write_refused<K: Sink>(fault: &DescFault, sink: &mut K) -> bool
     }
 }
 
-// Writes where a stream breaks a rule, and which.
-fn write_malformed<K: Sink>(place: u64, rule: Why, sink: &mut K) -> bool
-    ensures writes { WritesAll (K.writing sink.old) (K.writing sink.new) (malformed_line place rule) result }
-    ensures beside { K.beside_writes sink.new ≡ K.beside_writes sink.old }
-{
-    let mut digits = Buffer::new();
-    let place_text = digits.format(place).as_bytes();
-    put_line_of(b"malformed at ", place_text, b": ", rule_text(rule), sink)
-}
-
-// Writes how much of an item the input had.
-fn write_truncated<K: Sink>(octets: u64, sink: &mut K) -> bool
-    ensures writes { WritesAll (K.writing sink.old) (K.writing sink.new) (truncated_line octets) result }
-    ensures beside { K.beside_writes sink.new ≡ K.beside_writes sink.old }
-{
-    let mut digits = Buffer::new();
-    let count = digits.format(octets).as_bytes();
-    put_three(b"truncated after ", count, b" octets of an item\n", sink)
-}
-
-/// Writes the line on standard error that tells how a command ended. At `false` a write failed, and a front of the line went
-/// out before it. It takes no memory.
-pub fn write_line<K: Sink>(fault: &Fault, sink: &mut K) -> bool
-    ensures writes { WritesAll (K.writing sink.old) (K.writing sink.new) (line_of fault.now) result }
-    ensures beside { K.beside_writes sink.new ≡ K.beside_writes sink.old }
+/// Writes the line on standard error that tells how a command ended. Where a write fails, a front of the line went out.
+/// It takes no memory.
+pub fn write_line<K: Sink>(fault: &Fault, sink: &mut K) -> Result<(), WriteFault>
+    ensures wrote { Wrote K.writing K.beside_writes sink.old sink.new (line_of fault.now) result }
 {
     match fault {
         Fault::Usage => put_line(b"usage", sink),
         Fault::Description(refused) => write_refused(refused, sink),
         Fault::ReadFault => put_line(b"read fault", sink),
         Fault::WriteFault => put_line(b"write fault", sink),
-        Fault::Malformed(place, rule) => write_malformed(*place, *rule, sink),
-        Fault::Truncated(octets) => write_truncated(*octets, sink),
+        Fault::Malformed(place, rule) => put_all(sink, malformed_line(*place, *rule).as_slice()),
+        Fault::Truncated(octets) => put_all(sink, truncated_line(*octets).as_slice()),
         Fault::TooLong => put_line(b"too long", sink),
         Fault::NoMemory => put_line(b"no memory", sink),
     }

@@ -1,6 +1,6 @@
 // Reads the numbers in words.
 ghost use Rattle.std.specs.Prelude.{◌≡◌, ◌-◌, ◌^◌, ◌≤◌, ◌<◌, min, ℕ, MatchOption};
-ghost use Rattle.eb_text.specs.Words.{number_in, AreDigits, IsDecimal, IsRamSize, Says};
+ghost use Rattle.eb_text.specs.Command.{decimal_value, AreDigits, IsDecimal, IsRamSize, Says};
 
 const MOST_DIGITS: usize = 20;
 
@@ -9,7 +9,8 @@ const MOST_OCTETS: u32 = 1_048_576;
 
 // The number in decimal digits, at most the greatest of 64 bits; none where one is no digit.
 fn number_of(text: &[u8]) -> Option<u64>
-    ensures { MatchOption result (AreDigits text.now → ⊥) (λ n. AreDigits text.now × (n ≡ min (number_in text.now) (2 ^ 64 - 1))) }
+    ensures { MatchOption result (AreDigits text.now → ⊥)
+        (λ n. AreDigits text.now × (n ≡ min (decimal_value text.now) (2 ^ 64 - 1))) }
 {
     let mut number: u64 = 0;
     for octet in text {

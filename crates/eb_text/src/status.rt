@@ -1,3 +1,5 @@
+// The statuses of the program.
+
 /// The status of the program.
 #[derive(Clone, Copy, Debug, PartialEq, Eq)]
 pub struct Status(pub u8);

@@ -1,7 +1,7 @@
 //! The program `eb`: the words of the command line, the real files and the standard streams, and the status.
 #![tactic(auto)]
 
-use eb_io::{RealWorld, StdSink};
+use eb_io::{RealWorld, WriteSink};
 use eb_run::{Family, Fault, family_of, run_plain, write_line};
 use std::alloc::Global;
 use std::env;
@@ -22,8 +22,8 @@ fn words_of(rt: HostRuntime, alloc: Global) -> Result<Vec<String>, Fault> {
 
 fn main(rt: HostRuntime) -> ExitCode {
     let alloc = rt.alloc();
-    let mut out = StdSink::output(rt);
-    let mut err = StdSink::error(rt);
+    let mut out = WriteSink::new(rt.stdout());
+    let mut err = WriteSink::new(rt.stderr());
     let mut world = RealWorld::new(rt, alloc);
     let status = match words_of(rt, alloc) {
         Ok(words) => match family_of(&words) {

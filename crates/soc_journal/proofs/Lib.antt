@@ -1,3 +1,1 @@
-pub mod DigitLemmas
-pub mod Growing
-pub mod WentLemmas
+pub mod GrowthLemmas

@@ -2,4 +2,3 @@ pub mod Journal
 pub mod Growth
 pub mod Ledger
 pub mod Text
-pub mod Writing

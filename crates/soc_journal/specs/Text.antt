@@ -1,24 +1,10 @@
 -- The text of a journal.
 use Rattle.std.specs.Prelude.{ℕ, Bool, true, false, if◌then◌else◌, List, [], ◌∷◌, ◌++◌, codes, decimal}
-use Rattle.hex.specs.Hex.{encode_upper}
-use Rattle.eb_base.specs.declared.width.Width.TheVariants.{W64}
-use Rattle.eb_base.specs.Field.{octets_of}
+use Rattle.eb_io.specs.Text.{line, digits_2, digits_16}
 use Rattle.wb_signals.specs.Request.{Request}
 use Rattle.wb_signals.specs.History.{Pair, Entry}
 use Rattle.wb_signals.specs.declared.answer.Answer.{Answer}
 use Rattle.wb_signals.specs.declared.answer.Answer.TheVariants.{Ack, Err, Rty}
-
--- a number in 16 hexadecimal digits
-abbrev pub digits_16 : ℕ → List ℕ
-digits_16 n = encode_upper (octets_of W64 n)
-
--- an octet in 2 hexadecimal digits
-abbrev pub digits_2 : ℕ → List ℕ
-digits_2 n = encode_upper (n ∷ [])
-
--- a line, with its end
-abbrev pub line : List ℕ → List ℕ
-line text = text ++ 10 ∷ []
 
 -- a write, with its data
 abbrev pub write_text : Request → List ℕ

@@ -1,3 +1,4 @@
+// A cycle that has ended.
 use crate::pair::Pairs;
 use std::marker::Model;
 

@@ -1,3 +1,4 @@
+// The journal: the entries, and places for more.
 ghost use Rattle.std.specs.Prelude.{◌≡◌, ◌-◌, ◌<◌, ◌≤◌, ◌++◌, ◌∷◌, [], length, max, OnOk, OnErr, Some, slice_get};
 ghost use Rattle.soc_journal.specs.Journal.{JournalState};
 

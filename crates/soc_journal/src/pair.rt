@@ -1,3 +1,4 @@
+// An operation with its answer, and those of a cycle.
 ghost use Rattle.std.specs.Prelude.{◌≡◌, ◌<◌, ◌++◌, ◌∷◌, [], length, OnOk, OnErr, Some, slice_get};
 
 use eb_base::NoMemory;

@@ -1,51 +1,40 @@
+// The text of a journal, line by line.
 ghost use Rattle.std.specs.Prelude.{◌≡◌, ◌≤◌, ◌++◌, codes, length};
-ghost use Rattle.soc_journal.specs.Text.{digits_16, write_text, read_text, request_text, answer_text, pair_line, pair_lines, cycle_line, entry_text, entries_text, journal_text};
-ghost use Rattle.soc_journal.specs.Writing.{WritesText};
-ghost use Rattle.eb_io.specs.Writing.{WritesAll};
+ghost use Rattle.eb_io.specs.Text.{digits_16};
+ghost use Rattle.eb_io.specs.Writing.{Wrote};
+ghost use Rattle.soc_journal.specs.Text.{answer_text, cycle_line, entries_text, entry_text, journal_text, pair_line, pair_lines, read_text, request_text, write_text};
 
-use crate::digits::{digits_2, digits_16};
 use crate::entry::Entry;
 use crate::journal::Journal;
-use crate::line::Line;
 use crate::pair::Pair;
-use eb_io::{Sink, put_all};
-use itoa::Buffer;
+use eb_io::{Line, Sink, WriteFault, put_all};
 use wb_signals::{Answer, Op};
 
-/// What writing a journal answers.
-#[derive(Clone, Copy, Debug, PartialEq, Eq)]
-pub enum Written {
-    /// The whole text went out.
-    All,
-    /// A write failed, after a front of the text.
-    Failed,
-}
-
-fn write_text(op: &Op) -> Line
+fn write_text(op: &Op) -> Line<64>
     ensures value { result ≡ write_text op.now }
     ensures short { length result ≤ 38 }
 {
     let mut line = Line::of(b"w ");
-    line.put(&digits_16(op.adr));
+    line.put_word(op.adr);
     line.put(b" ");
-    line.put(&digits_2(op.sel));
+    line.put_hex(&[op.sel]);
     line.put(b" ");
-    line.put(&digits_16(op.dat));
+    line.put_word(op.dat);
     line
 }
 
-fn read_text(op: &Op) -> Line
+fn read_text(op: &Op) -> Line<64>
     ensures value { result ≡ read_text op.now }
     ensures short { length result ≤ 38 }
 {
     let mut line = Line::of(b"r ");
-    line.put(&digits_16(op.adr));
+    line.put_word(op.adr);
     line.put(b" ");
-    line.put(&digits_2(op.sel));
+    line.put_hex(&[op.sel]);
     line
 }
 
-fn request_text(op: &Op) -> Line
+fn request_text(op: &Op) -> Line<64>
     ensures value { result ≡ request_text op.now }
     ensures short { length result ≤ 38 }
 {
@@ -56,17 +45,17 @@ fn request_text(op: &Op) -> Line
     }
 }
 
-fn word_text(word: u64) -> Line
+fn word_text(word: u64) -> Line<64>
     ensures value { result ≡ codes "ack " ++ digits_16 word }
     ensures short { length result ≤ 20 }
 {
     let mut line = Line::of(b"ack ");
-    line.put(&digits_16(word));
+    line.put_word(word);
     line
 }
 
 // The answer of a write or a read.
-fn answer_text(write: bool, answer: Answer) -> Line
+fn answer_text(write: bool, answer: Answer) -> Line<64>
     ensures value { result ≡ answer_text write answer }
     ensures short { length result ≤ 20 }
 {
@@ -83,7 +72,7 @@ fn answer_text(write: bool, answer: Answer) -> Line
     }
 }
 
-fn pair_line(pair: &Pair) -> Line
+fn pair_line(pair: &Pair) -> Line<64>
     ensures value { result ≡ pair_line pair.now }
 {
     let mut line = request_text(&pair.op);
@@ -93,12 +82,11 @@ fn pair_line(pair: &Pair) -> Line
     line
 }
 
-fn cycle_line(master: u8, cut: bool) -> Line
+fn cycle_line(master: u8, cut: bool) -> Line<64>
     ensures value { result ≡ cycle_line master cut }
 {
     let mut line = Line::of(b"cycle ");
-    let mut digits = Buffer::new();
-    line.put(digits.format(master).as_bytes());
+    line.put_decimal(u64::from(master));
     line.put(b" ");
     let mark: &[u8] = if cut { b"cut" } else { b"whole" };
     line.put(mark);
@@ -106,43 +94,29 @@ fn cycle_line(master: u8, cut: bool) -> Line
     line
 }
 
-fn write_pairs<S: Sink>(pairs: &[Pair], sink: &mut S) -> bool
-    ensures writes { WritesAll (S.writing sink.old) (S.writing sink.new) (pair_lines pairs.now) result }
-    ensures beside { S.beside_writes sink.new ≡ S.beside_writes sink.old }
+fn write_pairs<S: Sink>(pairs: &[Pair], sink: &mut S) -> Result<(), WriteFault>
+    ensures wrote { Wrote S.writing S.beside_writes sink.old sink.new (pair_lines pairs.now) result }
 {
     for pair in pairs {
-        if !put_all(sink, pair_line(pair).as_slice()) {
-            return false;
-        }
+        put_all(sink, pair_line(pair).as_slice())?;
     }
-    true
+    Ok(())
 }
 
-fn write_entry<S: Sink>(entry: &Entry, sink: &mut S) -> bool
-    ensures writes { WritesAll (S.writing sink.old) (S.writing sink.new) (entry_text entry.now) result }
-    ensures beside { S.beside_writes sink.new ≡ S.beside_writes sink.old }
+fn write_entry<S: Sink>(entry: &Entry, sink: &mut S) -> Result<(), WriteFault>
+    ensures wrote { Wrote S.writing S.beside_writes sink.old sink.new (entry_text entry.now) result }
 {
-    put_all(sink, cycle_line(entry.master, entry.cut).as_slice())
-        && write_pairs(entry.pairs.as_slice(), sink)
+    put_all(sink, cycle_line(entry.master, entry.cut).as_slice())?;
+    write_pairs(entry.pairs.as_slice(), sink)
 }
 
-fn write_entries<S: Sink>(entries: &[Entry], sink: &mut S) -> bool
-    ensures writes { WritesAll (S.writing sink.old) (S.writing sink.new) (entries_text entries.now) result }
-    ensures beside { S.beside_writes sink.new ≡ S.beside_writes sink.old }
+fn write_entries<S: Sink>(entries: &[Entry], sink: &mut S) -> Result<(), WriteFault>
+    ensures wrote { Wrote S.writing S.beside_writes sink.old sink.new (entries_text entries.now) result }
 {
     for entry in entries {
-        if !write_entry(entry, sink) {
-            return false;
-        }
+        write_entry(entry, sink)?;
     }
-    true
-}
-
-fn write_journal<S: Sink>(entries: &[Entry], sink: &mut S) -> bool
-    ensures writes { WritesAll (S.writing sink.old) (S.writing sink.new) (journal_text entries.now) result }
-    ensures beside { S.beside_writes sink.new ≡ S.beside_writes sink.old }
-{
-    put_all(sink, b"journal\n") && write_entries(entries, sink)
+    Ok(())
 }
 
 impl Journal {
@@ -150,15 +124,11 @@ impl Journal {
     /// a line for each of its operations, `w ADR SEL DAT ANSWER` or `r ADR SEL ANSWER`.
     ///
     /// M is decimal, ADR and DAT have 16 hexadecimal digits, SEL 2. ANSWER is `err`, `rty`, `ack` for a write, or
-    /// `ack` and 16 digits for a read. It takes no memory.
-    pub fn write<S: Sink>(&self, sink: &mut S) -> Written
-        ensures writes { WritesText (S.writing sink.old) (S.writing sink.new) (journal_text self.now.entries) result }
-        ensures beside { S.beside_writes sink.new ≡ S.beside_writes sink.old }
+    /// `ack` and 16 digits for a read. Where a write fails, a front of the text went out. It takes no memory.
+    pub fn write<S: Sink>(&self, sink: &mut S) -> Result<(), WriteFault>
+        ensures wrote { Wrote S.writing S.beside_writes sink.old sink.new (journal_text self.now.entries) result }
     {
-        if write_journal(self.entries(), sink) {
-            Written::All
-        } else {
-            Written::Failed
-        }
+        put_all(sink, b"journal\n")?;
+        write_entries(self.entries(), sink)
     }
 }

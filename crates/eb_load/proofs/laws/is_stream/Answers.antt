@@ -1,4 +1,4 @@
-use Rattle.eb_load.proofs.Spelled.{spells_load, is_short}
+use Rattle.eb_load.proofs.SpellingLemmas.{spells_load, is_short}
 use Rattle.eb_load.proofs.laws.is_stream.Goals as goal
 
 pub returns-clause-spells : goal.returns-clause-spells

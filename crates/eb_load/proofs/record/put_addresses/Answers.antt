@@ -1,9 +1,9 @@
 use Rattle.std.proofs.Common.{◌≡◌, ℕ, ◌+◌, ◌-◌, ◌*◌, ◌%◌, ◌<◌, ◌++◌, ap, ◌∙◌, arith}
 use Rattle.eb_base.specs.declared.width.Width.TheVariants.{W32}
 use Rattle.eb_base.specs.Field.{octets_of}
-use Rattle.eb_load.specs.Draws.{next, drawn, after}
+use Rattle.eb_load.specs.Draws.{next, drawn, state_after}
 use Rattle.eb_load.specs.Stream.{addresses_from}
-use Rattle.eb_load.proofs.Drawing.{octets_of_all, one_address, after_address}
+use Rattle.eb_load.proofs.DrawLemmas.{octets_of_all, one_address, after_address}
 use Rattle.eb_load.proofs.record.put_addresses.Goals as goal
 
 pub loop-preserved : goal.loop-preserved
@@ -12,11 +12,11 @@ loop-preserved c =
     let i = c.loop.counter in
     let x = c.loop.draws in
     let lt : i < n = omega arith in
-    let more = c.put_number.new.out.items in
-    let is : more ≡ c.loop.out.items ++ octets_of W32 (4 * (drawn x % 16384)) = cc in
+    let more = c.put_number.new.out in
+    let is : more ≡ c.loop.out ++ octets_of W32 (4 * (drawn x % 16384)) = cc in
     let state : c.draw-word.new.self ≡ next x = cc in
     record {
-      items = ap (λ (s : ℕ). more ++ octets_of_all (addresses_from (n - (i + 1)) s)) state ∙ one_address c.loop.out.items more x n i lt is ∙ c.loop.invariant.items;
+      items = ap (λ (s : ℕ). more ++ octets_of_all (addresses_from (n - (i + 1)) s)) state ∙ one_address c.loop.out more x n i lt is ∙ c.loop.invariant.items;
       len = omega arith;
-      draws = ap (λ (s : ℕ). after (n - (i + 1)) s) state ∙ after_address x n i lt ∙ c.loop.invariant.draws;
+      draws = ap (λ (s : ℕ). state_after (n - (i + 1)) s) state ∙ after_address x n i lt ∙ c.loop.invariant.draws;
     }

@@ -1,7 +1,7 @@
 use Rattle.std.proofs.Common.{refl, ap, ◌∙◌, arith}
 use Rattle.wb_signals.specs.History.{Entry}
 use Rattle.eb_load.specs.Summary.{totals}
-use Rattle.eb_load.proofs.Counting.{one_entry}
+use Rattle.eb_load.proofs.SummaryLemmas.{one_entry}
 use Rattle.eb_load.proofs.summary.totals_of_entries.Goals as goal
 
 pub loop-entry-init : goal.loop-entry-init

@@ -1,6 +1,6 @@
 use Rattle.std.proofs.Common.{refl, arith}
 use Rattle.eb_load.specs.Summary.{totals}
-use Rattle.eb_load.proofs.Counting.{one_pair}
+use Rattle.eb_load.proofs.SummaryLemmas.{one_pair}
 use Rattle.eb_load.proofs.summary.totals_of_pairs.Goals as goal
 
 pub loop-pair-init : goal.loop-pair-init

@@ -1,14 +1,22 @@
-use Rattle.std.proofs.Common.{refl}
-use Rattle.eb_text.specs.Build.{record_count, record_lines, table_line}
-use Rattle.eb_text.proofs.Joined.{goes_on, fails}
+use Rattle.std.proofs.Common.{◌≡◌, ℕ, List, ◌++◌, ap, ◌∙◌}
+use Rattle.eb_io.proofs.WritingLemmas.{wrong_first, wrote_both}
+use Rattle.eb_text.specs.Build.{record_count, record_lines, table_line, table_text}
 use Rattle.eb_text.proofs.build.write_table.Goals as goal
 
-pub returns-then-write_table_line-clause-writes : goal.returns-then-write_table_line-clause-writes
-returns-then-write_table_line-clause-writes g c =
-    goes_on _ _ _ (table_line c.args.at (record_count c.args.octets.now)) (record_lines (record_count c.args.octets.now) c.args.octets.now) _ c.write_records.result
-    refl c.if-write_table_line.ensures.writes c.write_records.ensures.writes
+pub returns-in_err-put_all : goal.returns-in_err-put_all
+returns-in_err-put_all g c =
+    let octets = c.args.octets.now in
+    let head : c.as_slice.result.now ≡ table_line c.args.at (record_count octets) = c.as_slice.ensures.octets ∙ c.table_line.ensures.value in
+    record {
+      wrote = wrong_first g.K.Sink.writing g.K.Sink.beside_writes _ _ (table_text c.args.at octets) c.as_slice.result.now (record_lines (record_count octets) octets) _ _
+          c.from_residual.ensures.0 (ap (λ (l : List ℕ). l ++ record_lines (record_count octets) octets) head) c.in_err-put_all.ensures.wrote;
+    }
 
-pub returns-else-write_table_line-clause-writes : goal.returns-else-write_table_line-clause-writes
-returns-else-write_table_line-clause-writes g c =
-    fails _ _ (table_line c.args.at (record_count c.args.octets.now)) (record_lines (record_count c.args.octets.now) c.args.octets.now) _ c.write_table_line.result
-    c.if-write_table_line.false refl c.if-write_table_line.ensures.writes
+pub returns : goal.returns
+returns g c =
+    let octets = c.args.octets.now in
+    let head : c.as_slice.result.now ≡ table_line c.args.at (record_count octets) = c.as_slice.ensures.octets ∙ c.table_line.ensures.value in
+    record {
+      wrote = wrote_both g.K.Sink.writing g.K.Sink.beside_writes _ _ _ (table_text c.args.at octets) c.as_slice.result.now (record_lines (record_count octets) octets) _
+          (ap (λ (l : List ℕ). l ++ record_lines (record_count octets) octets) head) c.in_ok-put_all.ensures.wrote c.write_records.ensures.wrote;
+    }

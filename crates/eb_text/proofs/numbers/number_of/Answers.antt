@@ -1,6 +1,6 @@
 use Rattle.std.proofs.Common.{◌<◌, length, get_or, arith, rules}
-use Rattle.eb_text.specs.Words.{IsDigit}
-use Rattle.eb_text.proofs.Digits.{digit_in, goes_on, digits_more}
+use Rattle.eb_text.specs.Command.{IsDigit}
+use Rattle.eb_text.proofs.DecimalLemmas.{digit_in, goes_on, digits_more}
 use Rattle.eb_text.proofs.numbers.number_of.Goals as goal
 
 pub returns-then-not-is_ascii_digit : goal.returns-then-not-is_ascii_digit

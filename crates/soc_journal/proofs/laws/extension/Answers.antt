@@ -1,4 +1,4 @@
-use Rattle.soc_journal.proofs.Growing.{Extends-self, Extends-on, ExtendsBy-on}
+use Rattle.soc_journal.proofs.GrowthLemmas.{Extends-self, Extends-on, ExtendsBy-on}
 use Rattle.soc_journal.proofs.laws.extension.Goals as goal
 
 pub returns : goal.returns

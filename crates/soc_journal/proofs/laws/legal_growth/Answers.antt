@@ -1,4 +1,4 @@
-use Rattle.soc_journal.proofs.Growing.{after-append, IsLegal-append, IsLegal-front}
+use Rattle.soc_journal.proofs.GrowthLemmas.{after-append, IsLegal-append, IsLegal-front}
 use Rattle.soc_journal.proofs.laws.legal_growth.Goals as goal
 
 pub returns : goal.returns

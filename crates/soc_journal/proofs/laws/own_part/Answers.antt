@@ -1,4 +1,4 @@
-use Rattle.soc_journal.proofs.Growing.{own-append, own-mine, AllOf-own, own-ExtendsBy}
+use Rattle.soc_journal.proofs.GrowthLemmas.{own-append, own-mine, AllOf-own, own-ExtendsBy}
 use Rattle.soc_journal.proofs.laws.own_part.Goals as goal
 
 pub returns : goal.returns

@@ -1,30 +1,27 @@
-use Rattle.std.proofs.Common.{◌≡◌, ℕ, List, Bool, sym, ap, ◌∙◌, subst}
+use Rattle.std.proofs.Common.{◌≡◌, ℕ, List, ◌++◌, ap, ◌∙◌}
 use Rattle.wb_signals.specs.History.{Entry}
-use Rattle.eb_io.specs.Writing.{Took, WroteFront, WritesAll}
+use Rattle.eb_io.proofs.WritingLemmas.{wrong_first, wrote_both}
 use Rattle.soc_journal.specs.Text.{cycle_line, pair_lines, entry_text}
-use Rattle.soc_journal.proofs.WentLemmas.{failed_first, writes_on}
 use Rattle.soc_journal.proofs.text.write_entry.Goals as goal
 
-pub returns-then-put_all-clause-writes : goal.returns-then-put_all-clause-writes
-returns-then-put_all-clause-writes g c =
+pub returns-in_err-put_all : goal.returns-in_err-put_all
+returns-in_err-put_all g c =
     let e = c.args.entry.now in
-    let old = g.S.Sink.writing c.args.sink.now in
-    let mid = g.S.Sink.writing c.put_all.new.sink in
-    let new = g.S.Sink.writing c.write_pairs.new.sink in
     let head : c.as_slice.result.now ≡ cycle_line e.master e.cut =
     c.as_slice.ensures.octets ∙ c.cycle_line.ensures.value ∙ ap (λ (v : Entry). cycle_line v.master v.cut) c.entry.view_is in
-    let rest : pair_lines c.as_slice-then-put_all.result.now ≡ pair_lines e.pairs =
-    ap pair_lines c.as_slice-then-put_all.ensures.items ∙ ap (λ (v : Entry). pair_lines v.pairs) c.entry.view_is in
-    writes_on old mid new (cycle_line e.master e.cut) (pair_lines e.pairs) c.write_pairs.result
-    (subst (λ (l : List ℕ). Took old mid l) head c.if-put_all.ensures.writes)
-    (subst (λ (l : List ℕ). WritesAll mid new l c.write_pairs.result) rest c.write_pairs.ensures.writes)
+    record {
+      wrote = wrong_first g.S.Sink.writing g.S.Sink.beside_writes _ _ (entry_text e) c.as_slice.result.now (pair_lines e.pairs) _ _ c.from_residual.ensures.0
+          (ap (λ (l : List ℕ). l ++ pair_lines e.pairs) head) c.in_err-put_all.ensures.wrote;
+    }
 
-pub returns-else-put_all-clause-writes : goal.returns-else-put_all-clause-writes
-returns-else-put_all-clause-writes g c =
+pub returns : goal.returns
+returns g c =
     let e = c.args.entry.now in
-    let old = g.S.Sink.writing c.args.sink.now in
-    let new = g.S.Sink.writing c.put_all.new.sink in
     let head : c.as_slice.result.now ≡ cycle_line e.master e.cut =
     c.as_slice.ensures.octets ∙ c.cycle_line.ensures.value ∙ ap (λ (v : Entry). cycle_line v.master v.cut) c.entry.view_is in
-    subst (λ (b : Bool). WritesAll old new (entry_text e) b) (sym c.if-put_all.false)
-    (failed_first old new (cycle_line e.master e.cut) (pair_lines e.pairs) (subst (λ (l : List ℕ). WroteFront old new l) head c.if-put_all.ensures.writes))
+    let rest : pair_lines c.as_slice-2.result.now ≡ pair_lines e.pairs =
+    ap pair_lines c.as_slice-2.ensures.items ∙ ap (λ (v : Entry). pair_lines v.pairs) c.entry.view_is in
+    record {
+      wrote = wrote_both g.S.Sink.writing g.S.Sink.beside_writes _ _ _ (entry_text e) c.as_slice.result.now (pair_lines c.as_slice-2.result.now) _
+          (λ i. head i ++ rest i) c.in_ok-put_all.ensures.wrote c.write_pairs.ensures.wrote;
+    }

@@ -5,7 +5,7 @@ use Rattle.std.specs.Result.{is_err}
 use Rattle.eb_io.specs.MemSource.{IsNew, reading_of}
 use Rattle.eb_io.specs.Shelf.{outside_of}
 use Rattle.eb_io.specs.declared.source.MemSource.{MemSource}
-use Rattle.eb_io.proofs.Worlds.{first_and_rest, at_ok, is_fresh, opened_file}
+use Rattle.eb_io.proofs.WorldLemmas.{first_and_rest, at_ok, is_fresh, opened_file}
 use Rattle.eb_io.proofs.world.MemWorldWorld.open.Goals as goal
 
 pub returns-clause-opens : goal.returns-clause-opens
