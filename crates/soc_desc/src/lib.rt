@@ -10,6 +10,7 @@ pub mod path;
 mod reading;
 mod shape;
 mod totals;
+pub mod view;
 
 pub use description::{BusDescription, Description, ItemDescription, Items, PortWord};
 pub use fault::DescFault;

@@ -1,0 +1,164 @@
+//! What an item is on its bus, whatever its kind: all that reads a description's items goes by these four cases.
+ghost use Rattle.std.specs.Prelude.{◌≡◌, ◌<◌, ◌^◌};
+ghost use Rattle.soc_desc.specs.View.{on_bus, viewed, made, octets_in, interface_of, OfDevice};
+ghost use Rattle.soc_desc.specs.declared.description.ItemDescription.TheViews.{out-ItemDescription};
+
+use crate::description::{BusDescription, ItemDescription, PortWord};
+use eb_base::{Product, RegList};
+
+/// What all devices have: how they are joined to their bus, and the ABI that their SDB records name.
+#[derive(Clone, Copy)]
+pub struct Interface {
+    pub port: PortWord,
+    pub wait: u8,
+    pub class: u16,
+    pub major: u8,
+    pub minor: u8,
+}
+
+/// How a device is made.
+#[derive(Clone, Copy)]
+pub enum MakeView<'d> {
+    /// A RAM of so many octets.
+    Ram(u32),
+    /// Registers of 4 octets each.
+    Regs(&'d RegList),
+    /// A FIFO of so many words.
+    Fifo(u32),
+}
+
+/// A device as its bus sees it.
+#[derive(Clone, Copy)]
+pub struct DeviceView<'d> {
+    pub product: &'d Product,
+    /// Its first address.
+    pub at: u64,
+    pub make: MakeView<'d>,
+    pub interface: Interface,
+}
+
+/// What an item is on its bus.
+#[derive(Clone, Copy)]
+pub enum ItemView<'d> {
+    Device(DeviceView<'d>),
+    /// A bridge at an address to another bus.
+    Bridge {
+        product: &'d Product,
+        at: u64,
+        bus: &'d BusDescription,
+    },
+    /// A record that has no address.
+    Note {
+        product: &'d Product,
+    },
+    /// An empty record.
+    Empty,
+}
+
+/// The octets of addresses that a device takes.
+pub fn octets_in(make: MakeView) -> u128
+    ensures octets { result ≡ octets_in (made make.entry) }
+    ensures small { result < 2 ^ 72 }
+{
+    match make {
+        MakeView::Ram(size) => u128::from(size),
+        MakeView::Regs(words) => 4 * words.len() as u128,
+        MakeView::Fifo(_) => 8,
+    }
+}
+
+fn joined(port: PortWord, wait: u8, class: u16, major: u8, minor: u8) -> Interface
+    ensures interface { result ≡ record { port = port; wait = wait; class = class; major = major; minor = minor } }
+{
+    Interface {
+        port,
+        wait,
+        class,
+        major,
+        minor,
+    }
+}
+
+/// How a device is joined to its bus, and a default for what is no device.
+fn interface_of(item: &ItemDescription) -> Interface
+    ensures interface { result ≡ interface_of (out-ItemDescription item.now) }
+{
+    match item {
+        ItemDescription::Ram {
+            port,
+            wait,
+            class,
+            major,
+            minor,
+            ..
+        } => joined(*port, *wait, *class, *major, *minor),
+        ItemDescription::Regs {
+            port,
+            wait,
+            class,
+            major,
+            minor,
+            ..
+        } => joined(*port, *wait, *class, *major, *minor),
+        ItemDescription::Fifo {
+            port,
+            wait,
+            class,
+            major,
+            minor,
+            ..
+        } => joined(*port, *wait, *class, *major, *minor),
+        ItemDescription::Bridge { .. } => joined(PortWord::Pipelined, 0, 0, 0, 0),
+        ItemDescription::Integration { .. } => joined(PortWord::Pipelined, 0, 0, 0, 0),
+        ItemDescription::Empty => joined(PortWord::Pipelined, 0, 0, 0, 0),
+    }
+}
+
+fn device<'d>(
+    product: &'d Product,
+    at: u64,
+    make: MakeView<'d>,
+    interface: Interface,
+) -> ItemView<'d>
+    ensures device { viewed result ≡ OfDevice (record { product = product.now; at = at; make = made make.entry; interface = interface }) }
+{
+    ItemView::Device(DeviceView {
+        product,
+        at,
+        make,
+        interface,
+    })
+}
+
+/// What an item is on its bus.
+pub fn on_bus(item: &ItemDescription) -> ItemView<'_>
+    ensures view { viewed result ≡ on_bus (out-ItemDescription item.now) }
+{
+    match item {
+        ItemDescription::Ram {
+            product,
+            at,
+            size,
+            ..
+        } => device(product, *at, MakeView::Ram(*size), interface_of(item)),
+        ItemDescription::Regs {
+            product,
+            at,
+            words,
+            ..
+        } => device(product, *at, MakeView::Regs(words), interface_of(item)),
+        ItemDescription::Fifo {
+            product,
+            at,
+            depth,
+            ..
+        } => device(product, *at, MakeView::Fifo(*depth), interface_of(item)),
+        ItemDescription::Bridge { product, at, bus } => ItemView::Bridge {
+            product,
+            at: *at,
+            bus,
+        },
+        ItemDescription::Integration { product } => ItemView::Note { product },
+        ItemDescription::Empty => ItemView::Empty,
+    }
+}
