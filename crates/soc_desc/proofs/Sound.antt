@@ -5,6 +5,8 @@ use Rattle.std.proofs.lemmas.List.{length-map}
 use Rattle.std.proofs.lemmas.Bool.Decides.{nat_tests}
 use Rattle.std.specs.Prelude.{slice_get, slice_index_or}
 use Rattle.std.specs.List.{list_all}
+use Rattle.eb_base.specs.declared.width.Width.{Width}
+use Rattle.eb_base.specs.declared.width.Width.TheVariants.{W8, W16, W32, W64}
 use Rattle.eb_base.specs.declared.name.Product.{Product}
 use Rattle.eb_base.specs.declared.reg.Reg.{Reg}
 use Rattle.soc_desc.specs.declared.description.PortWord.{PortWord}
@@ -18,7 +20,7 @@ use Rattle.soc_desc.specs.declared.geometry.Extent.{Extent}
 use Rattle.soc_desc.specs.Checks.{is_in}
 use Rattle.soc_desc.specs.Shape.{address, last_address, wait_clocks, u16, u8}
 use Rattle.soc_desc.specs.Geometry.{item_place, bus_place, extent_at, extents, rom_extent, octets_at, meets, are_within, are_apart, are_placed, all_behind}
-use Rattle.soc_desc.specs.Accepted.{all_of, greatest, is_product, is_reg, is_interface, is_make, is_32, item_fields, bus_fields, item_levels, bus_levels}
+use Rattle.soc_desc.specs.Accepted.{all_of, greatest, is_product, is_reg, is_interface, is_make, is_32, item_fields, bus_fields, item_levels, bus_levels, IsSoundBus}
 use Rattle.soc_desc.specs.Sound.{IsSoundItem, IsInside, AreApart, TopOfSound, ItemsOfSound, ApartOnSound, IsSoundRam, IsSoundRegs, IsSoundFifo, IsSoundBridge, LevelsFall, LevelsOfBridge}
 
 -- ---- a number in a range
@@ -115,6 +117,21 @@ top_of_sound bus h =
       };
       count = omega (arith, counted, length-map b.items (item_fields is_32));
     }
+
+width_is : (w : Width) → is_32 w ≡ true → w ≡ W32
+width_is W8 h = cc
+width_is W16 h = cc
+width_is W32 h = refl
+width_is W64 h = cc
+
+pub width_of_sound : (bus : BusDescription) → IsSoundBus bus → (out-BusDescription bus).width ≡ W32
+width_of_sound bus h =
+    let b = out-BusDescription bus in
+    let all = and_parts (is_product b.product && is_32 b.width && is_in (last_address 4) b.last && is_in (address 4) b.sdb && nat_le (length (map (item_fields is_32) b.items)) 64) (all_of (map (item_fields is_32) b.items)) (sym (fields_of bus) ∙ h.fields) in
+    let count = and_parts (is_product b.product && is_32 b.width && is_in (last_address 4) b.last && is_in (address 4) b.sdb) (nat_le (length (map (item_fields is_32) b.items)) 64) all.0 in
+    let sdb = and_parts (is_product b.product && is_32 b.width && is_in (last_address 4) b.last) (is_in (address 4) b.sdb) count.0 in
+    let last = and_parts (is_product b.product && is_32 b.width) (is_in (last_address 4) b.last) sdb.0 in
+    width_is b.width (and_parts (is_product b.product) (is_32 b.width) last.0).1
 
 pub items_of_sound : ItemsOfSound
 items_of_sound bus h k d lt =

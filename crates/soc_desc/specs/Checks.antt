@@ -64,6 +64,10 @@ abbrev pub refuse_unknown : Path → Option (List ℕ) → Members → Found Mem
 refuse_unknown path None ms = Ok ms
 refuse_unknown path (Some key) ms = Err (fault.Unknown (at_key path key))
 
+-- the members, if they have no keys but these
+abbrev pub known : List (List ℕ) → Path → Members → Found Members
+known keys path ms = refuse_unknown path (unknown keys ms) ms
+
 -- what a value is where it has the right JSON type
 abbrev pub kind_or : {A : Type 0} → Path → Option A → Found A
 kind_or path (Some x) = Ok x
@@ -75,7 +79,7 @@ object path d = kind_or path (as_object d)
 
 -- an object that has no keys but these
 abbrev pub object_of : List (List ℕ) → Path → Data → Found Members
-object_of keys path d = object path d >>= λ ms. refuse_unknown path (unknown keys ms) ms
+object_of keys path d = object path d >>= known keys path
 
 -- the value of a key that must be there, as it is checked
 abbrev pub required_at : {A : Type 0} → (Path → Data → Found A) → Path → List ℕ → Option Data → Found A

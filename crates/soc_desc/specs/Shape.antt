@@ -18,7 +18,7 @@ use Rattle.soc_desc.specs.declared.description.Description.{Description}
 use Rattle.soc_desc.specs.declared.shape.ItemKind.{ItemKind}
 use Rattle.soc_desc.specs.declared.shape.ItemKind.TheVariants as kind
 use Rattle.soc_desc.specs.declared.view.Interface.{Interface}
-use Rattle.soc_desc.specs.Checks.{Path, Found, ◌>>=◌, ◌>>◌, object, object_of, refuse_unknown, unknown, required, optional, from_to, number, text, Word, word, list}
+use Rattle.soc_desc.specs.Checks.{Path, Found, ◌>>=◌, ◌>>◌, object, object_of, known, required, optional, from_to, number, text, Word, word, list}
 
 -- ---- the numbers that keys take
 
@@ -176,8 +176,8 @@ unfoldable pub item : (Path → Data → Found BusDescription) → Path → Data
 item bus path d = do
   ms ← object path d
   kind ← required (word kinds) path (codes "kind") ms
-  known ← refuse_unknown path (unknown (keys kind) ms) ms
-  item_of bus kind path known
+  own ← known (keys kind) path ms
+  item_of bus kind path own
 
 -- ---- a bus, whose items are checked by an_item
 

@@ -5,7 +5,6 @@ use Rattle.eb_base.specs.declared.reg.Reg.{Reg}
 use Rattle.soc_desc.specs.declared.description.PortWord.{PortWord}
 use Rattle.soc_desc.specs.declared.description.BusDescription.{BusDescription}
 use Rattle.soc_desc.specs.declared.description.ItemDescription.TheOpen.{ItemDescription-F, Ram, Regs, Fifo, Bridge, Integration, Empty}
-use Rattle.soc_desc.specs.declared.description.PortWord.TheVariants.{Pipelined}
 use Rattle.soc_desc.specs.declared.view.Interface.{Interface}
 use Rattle.soc_desc.specs.declared.view.MakeView.{MakeView}
 use Rattle.soc_desc.specs.declared.view.MakeView.TheVariants as make_view
@@ -39,19 +38,10 @@ pub data OnBus (B : Type 0) : Type 0 where
   OfNote : Product → OnBus B
   OfEmpty : OnBus B
 
-abbrev interface : PortWord → ℕ → ℕ → ℕ → ℕ → Interface
+abbrev pub interface : PortWord → ℕ → ℕ → ℕ → ℕ → Interface
 interface port wait class major minor = record { port = port; wait = wait; class = class; major = major; minor = minor }
 
--- how a device is joined to its bus, and what stands for that where there is none
-abbrev pub interface_of : {A B : Type 0} → ItemDescription-F A B → Interface
-interface_of (Ram p at size port wait class major minor) = interface port wait class major minor
-interface_of (Regs p at words port wait class major minor) = interface port wait class major minor
-interface_of (Fifo p at depth port wait class major minor) = interface port wait class major minor
-interface_of (Bridge p at bus) = interface Pipelined 0 0 0 0
-interface_of (Integration p) = interface Pipelined 0 0 0 0
-interface_of Empty = interface Pipelined 0 0 0 0
-
-abbrev device : Product → ℕ → Make → Interface → Device
+abbrev pub device : Product → ℕ → Make → Interface → Device
 device p at make interface = record { product = p; at = at; make = make; interface = interface }
 
 abbrev pub on_bus : {A B : Type 0} → ItemDescription-F A B → OnBus B

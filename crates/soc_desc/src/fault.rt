@@ -1,3 +1,4 @@
+//! The rules that a description can break.
 ghost use Rattle.std.specs.Prelude.{◌≡◌};
 ghost use Rattle.soc_desc.specs.declared.fault.DescFault.TheVariants.{NoMemory};
 

@@ -119,7 +119,8 @@ fn item_spans(
 
 /// The spans of all that takes addresses on a bus, the ROM last.
 fn bus_spans(alloc: Global, path: &Path, bus: &BusDescription) -> Result<Vec<Span>, AllocError>
-    ensures { let b = out-BusDescription bus.now in IfOk result (λ v. v.items ≡ (located path.now b.last b.sdb (map item_place b.items)).spans) }
+    ensures { let b = out-BusDescription bus.now in
+        IfOk result (λ v. v.items ≡ (located path.now b.last b.sdb (map item_place b.items)).spans) }
 {
     let inner = path.key(alloc, "items")?;
     let mut spans = item_spans(alloc, &inner, bus.items.as_slice())?;
@@ -132,8 +133,12 @@ fn bus_spans(alloc: Global, path: &Path, bus: &BusDescription) -> Result<Vec<Spa
 
 /// Checks what stands on one bus.
 fn bus_placed(alloc: Global, path: &Path, bus: &BusDescription) -> Result<(), DescFault>
-    ensures found { let b = out-BusDescription bus.now in Gives (λ u. tt) result (placed_after b.last [] (located path.now b.last b.sdb (map item_place b.items)).spans) }
-    ensures sound { let b = out-BusDescription bus.now in IfOk result (λ u. are_placed b.last (extents (map item_place b.items) ++ rom_extent b.sdb (length (map item_place b.items)) ∷ []) ≡ true) }
+    ensures found { let b = out-BusDescription bus.now in
+        Gives (λ u. tt) result
+        (placed_after b.last [] (located path.now b.last b.sdb (map item_place b.items)).spans) }
+    ensures sound { let b = out-BusDescription bus.now in
+        IfOk result
+        (λ u. are_placed b.last (extents (map item_place b.items) ++ rom_extent b.sdb (length (map item_place b.items)) ∷ []) ≡ true) }
 {
     let spans = bus_spans(alloc, path, bus)?;
     spans_placed(alloc, bus.last, &spans)

@@ -1,3 +1,4 @@
+//! Where a value stands in a description.
 ghost use Rattle.std.specs.Prelude.{◌≡◌, ◌<◌, [], ◌∷◌, ◌++◌, length, IfOk, OnOk, OnErr, Some, slice_get};
 ghost use Rattle.std.specs.Fmt.{decimal};
 

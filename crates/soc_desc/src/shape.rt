@@ -2,7 +2,7 @@
 ghost use Rattle.std.specs.Prelude.{◌≡◌, ◌≤◌, ◌+◌, IfOk, true, map, length};
 ghost use Rattle.std.specs.List.{list_all};
 ghost use Rattle.serde_json.specs.View.{view, items_view, members_view};
-ghost use Rattle.soc_desc.specs.Checks.{Gives, required, optional, word, list, each_from, refuse_unknown, unknown};
+ghost use Rattle.soc_desc.specs.Checks.{Gives, required, optional, word, list, each_from, known};
 ghost use Rattle.soc_desc.specs.Shape.{product, name, reg, modes, ports, kinds, interface, ram_item, regs_item, fifo_item, integration_item, bridge_item, item, bus_of, bus, root, keys, device_keys};
 ghost use Rattle.soc_desc.specs.Accepted.{all_of, greatest, is_padded, is_product, is_reg, is_interface, is_32, item_fields, bus_fields, item_levels, bus_levels};
 
@@ -157,7 +157,8 @@ fn port_or(
     key: &str,
     missing: PortWord,
 ) -> Result<PortWord, DescFault>
-    ensures { Gives (λ p. p) result (optional (word ports) missing path.now key.now (members_view members.now.entries)) }
+    ensures { Gives (λ p. p) result
+        (optional (word ports) missing path.now key.now (members_view members.now.entries)) }
 {
     let Some(value) = find(members, key) else {
         return Ok(missing);
@@ -317,7 +318,8 @@ fn known_device<'v>(
     members: &'v Map<String, Value>,
     own: &str,
 ) -> Result<&'v Map<String, Value>, DescFault>
-    ensures { Gives (λ m. members_view m.now.entries) result (refuse_unknown path.now (unknown (device_keys own.now) (members_view members.now.entries)) (members_view members.now.entries)) }
+    ensures { Gives (λ m. members_view m.now.entries) result
+        (known (device_keys own.now) path.now (members_view members.now.entries)) }
 {
     let keys = [
         "kind",
@@ -340,7 +342,8 @@ fn known_for<'v>(
     members: &'v Map<String, Value>,
     kind: ItemKind,
 ) -> Result<&'v Map<String, Value>, DescFault>
-    ensures { Gives (λ m. members_view m.now.entries) result (refuse_unknown path.now (unknown (keys kind) (members_view members.now.entries)) (members_view members.now.entries)) }
+    ensures { Gives (λ m. members_view m.now.entries) result
+        (known (keys kind) path.now (members_view members.now.entries)) }
 {
     match kind {
         ItemKind::Ram => known_device(alloc, path, members, "size"),
@@ -512,7 +515,8 @@ fn items_at(
     key: &str,
     levels: u32,
 ) -> Result<Items, DescFault>
-    ensures found { Gives (λ v. v) result (required (list 0 64 (item (bus levels))) path.now key.now (members_view members.now.entries)) }
+    ensures found { Gives (λ v. v) result
+        (required (list 0 64 (item (bus levels))) path.now key.now (members_view members.now.entries)) }
     ensures levels { IfOk result (λ v. greatest (map item_levels v) ≤ levels) }
     ensures fields { IfOk result (λ v. all_of (map (item_fields is_32) v) ≡ true) }
     ensures count { IfOk result (λ v. length v ≤ 64) }

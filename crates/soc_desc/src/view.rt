@@ -1,6 +1,6 @@
 //! What an item is on its bus, whatever its kind: all that reads a description's items goes by these four cases.
 ghost use Rattle.std.specs.Prelude.{◌≡◌, ◌<◌, ◌^◌};
-ghost use Rattle.soc_desc.specs.View.{on_bus, viewed, made, octets_in, interface_of, OfDevice};
+ghost use Rattle.soc_desc.specs.View.{on_bus, viewed, made, octets_in, interface, device, OfDevice};
 ghost use Rattle.soc_desc.specs.declared.description.ItemDescription.TheViews.{out-ItemDescription};
 
 use crate::description::{BusDescription, ItemDescription, PortWord};
@@ -67,66 +67,29 @@ pub fn octets_in(make: MakeView) -> u128
     }
 }
 
-fn joined(port: PortWord, wait: u8, class: u16, major: u8, minor: u8) -> Interface
-    ensures interface { result ≡ record { port = port; wait = wait; class = class; major = major; minor = minor } }
-{
-    Interface {
-        port,
-        wait,
-        class,
-        major,
-        minor,
-    }
-}
-
-/// How a device is joined to its bus, and a default for what is no device.
-fn interface_of(item: &ItemDescription) -> Interface
-    ensures interface { result ≡ interface_of (out-ItemDescription item.now) }
-{
-    match item {
-        ItemDescription::Ram {
-            port,
-            wait,
-            class,
-            major,
-            minor,
-            ..
-        } => joined(*port, *wait, *class, *major, *minor),
-        ItemDescription::Regs {
-            port,
-            wait,
-            class,
-            major,
-            minor,
-            ..
-        } => joined(*port, *wait, *class, *major, *minor),
-        ItemDescription::Fifo {
-            port,
-            wait,
-            class,
-            major,
-            minor,
-            ..
-        } => joined(*port, *wait, *class, *major, *minor),
-        ItemDescription::Bridge { .. } => joined(PortWord::Pipelined, 0, 0, 0, 0),
-        ItemDescription::Integration { .. } => joined(PortWord::Pipelined, 0, 0, 0, 0),
-        ItemDescription::Empty => joined(PortWord::Pipelined, 0, 0, 0, 0),
-    }
-}
-
+/// A device, of which `joined` has the fields of its interface in their order.
 fn device<'d>(
     product: &'d Product,
     at: u64,
     make: MakeView<'d>,
-    interface: Interface,
+    joined: (&PortWord, &u8, &u16, &u8, &u8),
 ) -> ItemView<'d>
-    ensures device { viewed result ≡ OfDevice (record { product = product.now; at = at; make = made make.entry; interface = interface }) }
+    ensures device { let j = joined.entry in
+        let own = interface j.0.now j.1.now j.2.now j.3.now j.4.now in
+        viewed result ≡ OfDevice (device product.now at (made make.entry) own) }
 {
+    let (port, wait, class, major, minor) = joined;
     ItemView::Device(DeviceView {
         product,
         at,
         make,
-        interface,
+        interface: Interface {
+            port: *port,
+            wait: *wait,
+            class: *class,
+            major: *major,
+            minor: *minor,
+        },
     })
 }
 
@@ -139,20 +102,47 @@ pub fn on_bus(item: &ItemDescription) -> ItemView<'_>
             product,
             at,
             size,
-            ..
-        } => device(product, *at, MakeView::Ram(*size), interface_of(item)),
+            port,
+            wait,
+            class,
+            major,
+            minor,
+        } => device(
+            product,
+            *at,
+            MakeView::Ram(*size),
+            (port, wait, class, major, minor),
+        ),
         ItemDescription::Regs {
             product,
             at,
             words,
-            ..
-        } => device(product, *at, MakeView::Regs(words), interface_of(item)),
+            port,
+            wait,
+            class,
+            major,
+            minor,
+        } => device(
+            product,
+            *at,
+            MakeView::Regs(words),
+            (port, wait, class, major, minor),
+        ),
         ItemDescription::Fifo {
             product,
             at,
             depth,
-            ..
-        } => device(product, *at, MakeView::Fifo(*depth), interface_of(item)),
+            port,
+            wait,
+            class,
+            major,
+            minor,
+        } => device(
+            product,
+            *at,
+            MakeView::Fifo(*depth),
+            (port, wait, class, major, minor),
+        ),
         ItemDescription::Bridge { product, at, bus } => ItemView::Bridge {
             product,
             at: *at,
