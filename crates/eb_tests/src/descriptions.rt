@@ -96,3 +96,12 @@ fn fields_of_soc(rt: HostRuntime) -> Result<(), Fail> {
     assert_eq!(rt; soc.bus.width, Width::W32);
     Ok(())
 }
+
+#[test]
+fn pushed_path(rt: HostRuntime) -> Result<(), Fail> {
+    let alloc = rt.alloc();
+    let mut path = Path::of(Vec::from_slice(alloc, b"/bus")?);
+    assert!(rt; path.push(b'/').is_ok());
+    assert_eq!(rt; path.as_slice(), b"/bus/");
+    Ok(())
+}

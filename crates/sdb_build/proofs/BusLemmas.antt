@@ -6,19 +6,21 @@ use Rattle.std.proofs.lemmas.List.Elements.{All-nil, All-cons, All-append}
 use Rattle.std.specs.List.{All}
 use Rattle.eb_base.specs.declared.width.Width.{Width}
 use Rattle.eb_base.specs.declared.name.Product.{Product}
+use Rattle.soc_desc.specs.declared.description.Description.{Description}
 use Rattle.soc_desc.specs.declared.description.BusDescription.{BusDescription}
+use Rattle.soc_desc.proofs.Wider.{sound_wider}
 use Rattle.soc_desc.specs.declared.description.ItemDescription.{ItemDescription, map-ItemDescription, the_lemmas}
 use Rattle.soc_desc.specs.declared.description.ItemDescription.TheOpen.{ItemDescription-F, BusDescription-F, Ram, Regs, Fifo, Bridge, Integration, Empty}
 use Rattle.soc_desc.specs.declared.description.ItemDescription.TheViews.{roll-ItemDescription, roll-BusDescription}
 use Rattle.soc_desc.specs.declared.description.ItemDescription.TheFolds.{fold-roll-ItemDescription, fold-roll-BusDescription, ind-BusDescription}
-use Rattle.soc_desc.specs.Accepted.{all_of, is_product, item_fields, bus_fields, item_fields_layer, bus_fields_layer}
+use Rattle.soc_desc.specs.Accepted.{all_of, is_product, is_32_or_64, IsAccepted, item_fields, bus_fields, item_fields_layer, bus_fields_layer}
 use Rattle.soc_desc.specs.Checks.{is_in}
 use Rattle.soc_desc.specs.Shape.{address}
 use Rattle.sdb_build.specs.Tables as tables
 use Rattle.sdb_build.specs.Tables.{ItemTables, BusTables, item_tables, bus_tables, image_at, images_behind, bus_images}
 use Rattle.sdb_build.specs.Buses as buses
-use Rattle.sdb_build.specs.Buses.{PlacedBus, ItemBuses, BusBuses, item_buses, bus_buses, same_bus, behind_items}
-use Rattle.sdb_build.specs.Laws.{table_image, ListedAsItself, ImagesOfBuses, TablesOfAccepted}
+use Rattle.sdb_build.specs.Buses.{PlacedBus, buses_of, ItemBuses, BusBuses, item_buses, bus_buses, same_bus, behind_items}
+use Rattle.sdb_build.specs.Laws.{table_image, ListedAsItself, ImagesOfBuses, TablesOfSound}
 use Rattle.sdb_build.specs.Whole.{IsTable}
 use Rattle.sdb_build.proofs.RecordLemmas.{items_fields, table_of_bus}
 
@@ -30,16 +32,16 @@ HasTable b = IsTable (tables.table_records b.bus)
 record IsListedItem (item : ItemDescription) : Type 0 where
   pub same : (item_buses item).item ≡ item
   pub images : (base : ℕ) → (item_tables item).images base ≡ map table_image ((item_buses item).behind base)
-  pub tables : item_fields item ≡ true → (base : ℕ) → All HasTable ((item_buses item).behind base)
+  pub tables : item_fields is_32_or_64 item ≡ true → (base : ℕ) → All HasTable ((item_buses item).behind base)
 
 record IsListedBus (b : BusDescription) : Type 0 where
   pub same : (bus_buses b).bus ≡ b
   pub images : (base : ℕ) → bus_images b base ≡ map table_image ((bus_buses b).all base)
-  pub tables : bus_fields b ≡ true → (base : ℕ) → All HasTable ((bus_buses b).all base)
+  pub tables : bus_fields is_32_or_64 b ≡ true → (base : ℕ) → All HasTable ((bus_buses b).all base)
 
 -- ---- an item, of what its layer shows
 
-listed : (item : ItemDescription) (shown : ItemTables) (seen : ItemBuses) (fields : Bool) → item_tables item ≡ shown → item_buses item ≡ seen → item_fields item ≡ fields
+listed : (item : ItemDescription) (shown : ItemTables) (seen : ItemBuses) (fields : Bool) → item_tables item ≡ shown → item_buses item ≡ seen → item_fields is_32_or_64 item ≡ fields
     → seen.item ≡ item → ((base : ℕ) → shown.images base ≡ map table_image (seen.behind base)) → (fields ≡ true → (base : ℕ) → All HasTable (seen.behind base)) → IsListedItem item
 listed item shown seen fields s b f same images tabled = record {
   same = ap (λ (x : ItemBuses). x.item) b ∙ same;
@@ -56,7 +58,7 @@ leaf_listed y same none alone =
     listed (roll-ItemDescription y) _ _ _
     (fold-roll-ItemDescription ItemTables BusTables tables.item_layer tables.bus_layer y)
     (fold-roll-ItemDescription ItemBuses BusBuses buses.item_layer buses.bus_layer y)
-    (fold-roll-ItemDescription Bool Bool item_fields_layer bus_fields_layer y)
+    (fold-roll-ItemDescription Bool Bool item_fields_layer (bus_fields_layer is_32_or_64) y)
     same (λ base. none base ∙ sym (ap (λ (bs : List PlacedBus). map table_image bs) (alone base)))
     (λ h base. subst (λ (bs : List PlacedBus). All HasTable bs) (sym (alone base)) (All-nil HasTable))
 
@@ -66,10 +68,10 @@ bridge_listed p at b l =
     listed (roll-ItemDescription y) _ _ _
     (fold-roll-ItemDescription ItemTables BusTables tables.item_layer tables.bus_layer y)
     (fold-roll-ItemDescription ItemBuses BusBuses buses.item_layer buses.bus_layer y)
-    (fold-roll-ItemDescription Bool Bool item_fields_layer bus_fields_layer y)
+    (fold-roll-ItemDescription Bool Bool item_fields_layer (bus_fields_layer is_32_or_64) y)
     (ap (λ (x : BusDescription). roll-ItemDescription (Bridge p at x)) l.same)
     (λ base. l.images (base + at))
-    (λ h base. l.tables (and_parts (is_product p && is_in (address 4) at) (bus_fields b) h).1 (base + at))
+    (λ h base. l.tables (and_parts (is_product p && is_in (address 4) at) (bus_fields is_32_or_64 b) h).1 (base + at))
 
 -- ---- a bus, of what is shown of its items
 
@@ -92,10 +94,10 @@ images_listed base (e ∷ es) =
     (λ i. e.1.images base i ++ images_listed base es i)
     ∙ sym (map-append table_image ((item_buses e.0).behind base) (behind_items base (map item_buses (plain es))))
 
-tables_listed : (base : ℕ) (es : List ListedItem) → all_of (map item_fields (plain es)) ≡ true → All HasTable (behind_items base (map item_buses (plain es)))
+tables_listed : (base : ℕ) (es : List ListedItem) → all_of (map (item_fields is_32_or_64) (plain es)) ≡ true → All HasTable (behind_items base (map item_buses (plain es)))
 tables_listed base [] h = All-nil HasTable
 tables_listed base (e ∷ es) h =
-    let both = and_parts (item_fields e.0) (all_of (map item_fields (plain es))) h in
+    let both = and_parts (item_fields is_32_or_64 e.0) (all_of (map (item_fields is_32_or_64) (plain es))) h in
     All-append HasTable ((item_buses e.0).behind base) (behind_items base (map item_buses (plain es))) (e.1.tables both.0 base) (tables_listed base es both.1)
 
 module _ (p : Product) (width : Width) (last sdb : ℕ) (es : List ListedItem) where
@@ -135,9 +137,9 @@ module _ (p : Product) (width : Width) (last sdb : ℕ) (es : List ListedItem) w
     images = λ base.
         items_are base ∙ (λ i. image_is base i ∷ images_listed base es i) ∙ sym (ap (λ (bs : List PlacedBus). map table_image bs) (buses_are base));
     tables = λ h base.
-        let fields : all_of (map item_fields (plain es)) ≡ true = search (rules, the_lemmas, items_fields bus h) in
+        let fields : all_of (map (item_fields is_32_or_64) (plain es)) ≡ true = search (rules, the_lemmas, items_fields is_32_or_64 bus h) in
         subst (λ (bs : List PlacedBus). All HasTable bs) (sym (buses_are base))
-        (All-cons HasTable (record { base = base; bus = bus }) (behind_items base (map item_buses (plain es))) (table_of_bus bus h) (tables_listed base es fields));
+        (All-cons HasTable (record { base = base; bus = bus }) (behind_items base (map item_buses (plain es))) (table_of_bus is_32_or_64 bus h) (tables_listed base es fields));
   }
 
 -- ---- every bus
@@ -161,5 +163,8 @@ listed_as_itself b = (every_bus b).same
 pub images_of_buses : ImagesOfBuses
 images_of_buses d = (every_bus d.bus).images 0
 
-pub tables_of_accepted : TablesOfAccepted
-tables_of_accepted d h = (every_bus d.bus).tables h.sound.fields 0
+pub tables_of_sound : TablesOfSound
+tables_of_sound d h = (every_bus d.bus).tables h.fields 0
+
+pub tables_of_accepted : (d : Description) → IsAccepted d → All HasTable (buses_of d)
+tables_of_accepted d h = tables_of_sound d (sound_wider d.bus h.sound)

@@ -3,9 +3,10 @@ use Rattle.std.specs.Prelude.{ℕ, ◌+◌, List, [], ◌∷◌, ◌++◌, map}
 use Rattle.soc_desc.specs.declared.description.Description.{Description}
 use Rattle.soc_desc.specs.declared.description.ItemDescription.{ItemDescription, map-ItemDescription}
 use Rattle.soc_desc.specs.declared.description.BusDescription.{BusDescription}
-use Rattle.soc_desc.specs.declared.description.ItemDescription.TheOpen.{ItemDescription-F, BusDescription-F, Ram, Regs, Fifo, Bridge, Integration, Empty}
+use Rattle.soc_desc.specs.declared.description.ItemDescription.TheOpen.{ItemDescription-F, BusDescription-F}
 use Rattle.soc_desc.specs.declared.description.ItemDescription.TheViews.{roll-ItemDescription, roll-BusDescription}
 use Rattle.soc_desc.specs.declared.description.ItemDescription.TheFolds.{fold-ItemDescription, fold-BusDescription}
+use Rattle.soc_desc.specs.View.{on_bus, bridged}
 
 -- a bus, and its base
 pub record PlacedBus : Type 0 where
@@ -31,12 +32,7 @@ same_bus b = roll-BusDescription (record { product = b.product; width = b.width;
 
 -- The base of the bus behind a bridge is the bridge's address from the base of its own bus.
 abbrev pub behind_item : ItemDescription-F ItemBuses BusBuses → ℕ → List PlacedBus
-behind_item (Ram p at size port wait class major minor) = λ base. []
-behind_item (Regs p at words port wait class major minor) = λ base. []
-behind_item (Fifo p at depth port wait class major minor) = λ base. []
-behind_item (Bridge p at bus) = λ base. bus.all (base + at)
-behind_item (Integration p) = λ base. []
-behind_item Empty = λ base. []
+behind_item item = bridged (λ base. []) (λ at bus base. bus.all (base + at)) (on_bus item)
 
 abbrev pub behind_items : ℕ → List ItemBuses → List PlacedBus
 behind_items base [] = []

@@ -4,7 +4,7 @@ use Rattle.std.specs.List.{All}
 use Rattle.soc_desc.specs.declared.description.Description.{Description}
 use Rattle.soc_desc.specs.declared.description.BusDescription.{BusDescription}
 use Rattle.soc_desc.specs.declared.description.ItemDescription.TheViews.{out-BusDescription}
-use Rattle.soc_desc.specs.Accepted.{IsAccepted}
+use Rattle.soc_desc.specs.Accepted.{IsSoundBusOf, is_32_or_64}
 use Rattle.sdb_build.specs.declared.image.Image.{Image}
 use Rattle.sdb_build.specs.Tables.{octets_of, table_records, images_of}
 use Rattle.sdb_build.specs.Buses.{PlacedBus, bus_buses, buses_of}
@@ -26,7 +26,7 @@ ListedAsItself = (bus : BusDescription) → (bus_buses bus).bus ≡ bus
 abbrev pub ImagesOfBuses : Type 0
 ImagesOfBuses = (d : Description) → images_of d ≡ map table_image (buses_of d)
 
--- The table of each bus of an accepted description begins with an interconnect that counts all its records, and each of them
--- has 64 octets.
-abbrev pub TablesOfAccepted : Type 0
-TablesOfAccepted = (d : Description) → IsAccepted d → All (λ b. IsTable (table_records b.bus)) (buses_of d)
+-- The table of each bus of a description that keeps the rules begins with an interconnect that counts all its records, and each
+-- of them has 64 octets.
+abbrev pub TablesOfSound : Type 0
+TablesOfSound = (d : Description) → IsSoundBusOf is_32_or_64 d.bus → All (λ b. IsTable (table_records b.bus)) (buses_of d)

@@ -1,5 +1,5 @@
 -- The SDB table of a bus, the octets that stand for it in the bus's ROM, and the ROM images of all buses of a description.
-use Rattle.std.specs.Prelude.{ℕ, ◌+◌, ◌*◌, ◌-◌, List, [], ◌∷◌, ◌++◌, length}
+use Rattle.std.specs.Prelude.{ℕ, ◌+◌, ◌-◌, List, [], ◌∷◌, ◌++◌, length}
 use Rattle.eb_base.specs.declared.width.Width.{Width}
 use Rattle.eb_base.specs.declared.width.Width.TheVariants.{W8, W16, W32, W64}
 use Rattle.eb_base.specs.declared.name.Product.{Product}
@@ -10,8 +10,9 @@ use Rattle.sdb_record.specs.Relation.{encoded}
 use Rattle.soc_desc.specs.declared.description.Description.{Description}
 use Rattle.soc_desc.specs.declared.description.ItemDescription.{ItemDescription}
 use Rattle.soc_desc.specs.declared.description.BusDescription.{BusDescription}
-use Rattle.soc_desc.specs.declared.description.ItemDescription.TheOpen.{ItemDescription-F, BusDescription-F, Ram, Regs, Fifo, Bridge, Integration, Empty}
+use Rattle.soc_desc.specs.declared.description.ItemDescription.TheOpen.{ItemDescription-F, BusDescription-F}
 use Rattle.soc_desc.specs.declared.description.ItemDescription.TheFolds.{fold-ItemDescription, fold-BusDescription}
+use Rattle.soc_desc.specs.View.{Device, octets_in, OnBus, OfDevice, OfBridge, OfNote, OfEmpty, on_bus, bridged}
 use Rattle.sdb_build.specs.declared.image.Image.{Image}
 
 -- ---- octets
@@ -30,9 +31,10 @@ access_widths W16 = 1 + 2
 access_widths W32 = 1 + 2 + 4
 access_widths W64 = 1 + 2 + 4 + 8
 
--- a device that takes so many octets from an address on, on a bus of this width
-abbrev pub device : ℕ → ℕ → ℕ → Product → ℕ → ℕ → Width → Record
-device class major minor p at octets width = sdb.Device class major minor (access_widths width) at (at + octets - 1) p
+-- a device on a bus of this width
+abbrev pub device : Device → Width → Record
+device d width =
+    sdb.Device d.interface.class d.interface.major d.interface.minor (access_widths width) d.at (d.at + octets_in d.make - 1) d.product
 
 -- a bridge at an address to a bus with this last address, whose table stands there
 abbrev pub bridge : Product → ℕ → ℕ → ℕ → Record
@@ -57,18 +59,18 @@ pub record BusTables : Type 0 where
   pub records : List Record
   pub images : ℕ → List Image
 
-abbrev pub leaf : (Width → Record) → ItemTables
-leaf entry = record { entry = entry; images = λ base. [] }
+abbrev pub entry_on : OnBus BusTables → Width → Record
+entry_on (OfDevice d) width = device d width
+entry_on (OfBridge p at bus) width = bridge p at bus.last bus.sdb
+entry_on (OfNote p) width = sdb.Integration p
+entry_on OfEmpty width = sdb.Empty
 
--- Registers take 4 octets each, and a FIFO 8. The base of the bus behind a bridge is the bridge's address from the base of
--- its own bus.
+-- The base of the bus behind a bridge is the bridge's address from the base of its own bus.
 abbrev pub item_layer : ItemDescription-F ItemTables BusTables → ItemTables
-item_layer (Ram p at size port wait class major minor) = leaf (device class major minor p at size)
-item_layer (Regs p at words port wait class major minor) = leaf (device class major minor p at (4 * length words))
-item_layer (Fifo p at depth port wait class major minor) = leaf (device class major minor p at 8)
-item_layer (Bridge p at bus) = record { entry = λ width. bridge p at bus.last bus.sdb; images = λ base. bus.images (base + at) }
-item_layer (Integration p) = leaf (λ width. sdb.Integration p)
-item_layer Empty = leaf (λ width. sdb.Empty)
+item_layer item = record {
+  entry = λ width. entry_on (on_bus item) width;
+  images = bridged (λ base. []) (λ at bus base. bus.images (base + at)) (on_bus item);
+}
 
 abbrev pub entries : Width → List ItemTables → List Record
 entries width [] = []

@@ -1,6 +1,6 @@
 //! The ROM images of the buses of a description.
 ghost use Rattle.std.specs.Prelude.{◌≡◌, ◌+◌, ◌<◌, ◌^◌, ◌++◌, ◌∷◌, [], map, IfOk, OnOk};
-ghost use Rattle.soc_desc.specs.Accepted.{IsSoundBus, IsAccepted};
+ghost use Rattle.soc_desc.specs.Accepted.{IsSoundBusOf, is_32_or_64};
 ghost use Rattle.soc_desc.specs.declared.description.ItemDescription.TheViews.{out-BusDescription};
 ghost use Rattle.sdb_build.specs.Tables.{item_tables, image_at, images_behind, bus_images, images_of};
 ghost use Rattle.sdb_build.specs.Sound.{IsSoundItem, AreSoundItems};
@@ -24,7 +24,7 @@ fn push_image(
     base: u64,
     bus: &BusDescription,
 ) -> Result<(), NoMemory>
-    requires sound { IsSoundBus bus.now }
+    requires sound { IsSoundBusOf is_32_or_64 bus.now }
     requires inside { base + (out-BusDescription bus.now).last < 2 ^ 64 }
     ensures { OnOk result (images.new.items ≡ images.old.items ++ image_at bus.now base ∷ []) }
 {
@@ -44,7 +44,7 @@ fn push_bus(
     base: u64,
     bus: &BusDescription,
 ) -> Result<(), NoMemory>
-    requires sound { IsSoundBus bus.now }
+    requires sound { IsSoundBusOf is_32_or_64 bus.now }
     requires inside { base + (out-BusDescription bus.now).last < 2 ^ 64 }
     ensures { OnOk result (images.new.items ≡ images.old.items ++ bus_images bus.now base) }
 {
@@ -59,7 +59,7 @@ fn push_behind(
     base: u64,
     items: &[ItemDescription],
 ) -> Result<(), NoMemory>
-    requires sound { AreSoundItems base items.now }
+    requires sound { AreSoundItems is_32_or_64 base items.now }
     ensures { OnOk result (images.new.items ≡ images.old.items ++ images_behind base (map item_tables items.now)) }
 {
     for item in items {
@@ -75,7 +75,7 @@ fn push_item(
     base: u64,
     item: &ItemDescription,
 ) -> Result<(), NoMemory>
-    requires sound { IsSoundItem base item.now }
+    requires sound { IsSoundItem is_32_or_64 base item.now }
     ensures { OnOk result (images.new.items ≡ images.old.items ++ (item_tables item.now).images base) }
 {
     match item {
@@ -88,7 +88,7 @@ fn push_item(
 /// order of the items. Their addresses are absolute: the root's base is 0, and that of a bus behind a bridge is the base of the
 /// bridge's bus with the bridge's address.
 pub fn images(alloc: Global, description: &Description) -> Result<Vec<Image>, NoMemory>
-    requires accepted { IsAccepted description.now }
+    requires sound { IsSoundBusOf is_32_or_64 description.now.bus }
     ensures images { IfOk result (λ v. v.items ≡ images_of description.now) }
 {
     let mut images = Vec::new(alloc);

@@ -1,20 +1,16 @@
 //! The records of a table.
 ghost use Rattle.std.specs.Prelude.{◌≡◌, ◌+◌, ◌≤◌, ◌^◌, length};
 ghost use Rattle.sdb_record.specs.Relation.{IsValid};
-ghost use Rattle.soc_desc.specs.Accepted.{IsSoundBus};
+ghost use Rattle.soc_desc.specs.Accepted.{IsSoundBusOf, is_32_or_64};
 ghost use Rattle.soc_desc.specs.declared.description.ItemDescription.TheViews.{out-BusDescription};
 ghost use Rattle.sdb_build.specs.Tables.{access_widths, device, interconnect, item_tables};
+ghost use Rattle.soc_desc.specs.View.{made, device_shown, octets_in};
 ghost use Rattle.sdb_build.specs.Sound.{IsSoundItem};
 
-use eb_base::{Product, Width};
+use eb_base::Width;
 use sdb_record::Record;
+use soc_desc::view::{DeviceView, ItemView, octets_in, on_bus};
 use soc_desc::{BusDescription, ItemDescription};
-
-/// The octets of a register.
-const REGISTER_LEN: u64 = 4;
-
-/// The octets of addresses that a FIFO takes.
-const FIFO_LEN: u64 = 8;
 
 /// The access widths of a device on a bus of this width, as bits.
 fn access_widths(width: Width) -> u32
@@ -30,7 +26,7 @@ fn access_widths(width: Width) -> u32
 
 /// The record of the bus itself, which counts it with the records of its items.
 pub fn interconnect(bus: &BusDescription) -> Record
-    requires sound { IsSoundBus bus.now }
+    requires sound { IsSoundBusOf is_32_or_64 bus.now }
     ensures value { let b = out-BusDescription bus.now in result ≡ interconnect b.product b.last (length b.items) }
     ensures valid { IsValid result }
 {
@@ -42,93 +38,40 @@ pub fn interconnect(bus: &BusDescription) -> Record
     }
 }
 
-/// The class of a device's interface, with the version of that.
-#[derive(Clone, Copy)]
-struct Abi {
-    class: u16,
-    major: u8,
-    minor: u8,
-}
-
-impl Abi {
-    fn of(class: u16, major: u8, minor: u8) -> Abi
-        ensures { result ≡ record { class = class; major = major; minor = minor } }
-    {
-        Abi {
-            class,
-            major,
-            minor,
-        }
-    }
-}
-
-/// The record of a device that takes so many octets from an address on, on a bus of this width.
-fn device(width: Width, abi: Abi, at: u64, octets: u64, product: &Product) -> Record
-    requires some { 1 ≤ octets }
-    requires inside { at + octets ≤ 2 ^ 64 }
-    ensures value { result ≡ device abi.class abi.major abi.minor product.now at octets width }
+/// The record of a device on a bus of this width.
+fn device_record(width: Width, seen: DeviceView) -> Record
+    requires some { 1 ≤ octets_in (made seen.make) }
+    requires inside { seen.at + octets_in (made seen.make) ≤ 2 ^ 64 }
+    ensures value { result ≡ device (device_shown seen.entry) width }
     ensures valid { IsValid result }
 {
+    let last = u128::from(seen.at) + (octets_in(seen.make) - 1);
     Record::Device {
-        class: abi.class,
-        major: abi.major,
-        minor: abi.minor,
+        class: seen.interface.class,
+        major: seen.interface.major,
+        minor: seen.interface.minor,
         bus_specific: access_widths(width),
-        first: at,
-        last: at + (octets - 1),
-        product: *product,
+        first: seen.at,
+        last: last as u64,
+        product: *seen.product,
     }
 }
 
 /// The record of an item in the table of a bus of this width.
 pub fn entry(width: Width, item: &ItemDescription) -> Record
-    requires sound { IsSoundItem 0 item.now }
+    requires sound { IsSoundItem is_32_or_64 0 item.now }
     ensures value { result ≡ (item_tables item.now).entry width }
     ensures valid { IsValid result }
 {
-    match item {
-        ItemDescription::Ram {
-            product,
-            at,
-            size,
-            class,
-            major,
-            minor,
-            ..
-        } => {
-            let abi = Abi::of(*class, *major, *minor);
-            device(width, abi, *at, u64::from(*size), product)
-        }
-        ItemDescription::Regs {
-            product,
-            at,
-            words,
-            class,
-            major,
-            minor,
-            ..
-        } => {
-            let abi = Abi::of(*class, *major, *minor);
-            device(width, abi, *at, REGISTER_LEN * words.len() as u64, product)
-        }
-        ItemDescription::Fifo {
-            product,
-            at,
-            class,
-            major,
-            minor,
-            ..
-        } => {
-            let abi = Abi::of(*class, *major, *minor);
-            device(width, abi, *at, FIFO_LEN, product)
-        }
-        ItemDescription::Bridge { product, at, bus } => Record::Bridge {
-            child: *at + bus.sdb,
-            first: *at,
-            last: *at + bus.last,
+    match on_bus(item) {
+        ItemView::Device(device) => device_record(width, device),
+        ItemView::Bridge { product, at, bus } => Record::Bridge {
+            child: at + bus.sdb,
+            first: at,
+            last: at + bus.last,
             product: *product,
         },
-        ItemDescription::Integration { product } => Record::Integration { product: *product },
-        ItemDescription::Empty => Record::Empty,
+        ItemView::Note { product } => Record::Integration { product: *product },
+        ItemView::Empty => Record::Empty,
     }
 }

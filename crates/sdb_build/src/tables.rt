@@ -2,7 +2,7 @@
 ghost use Rattle.std.specs.Prelude.{◌≡◌, ◌+◌, ◌*◌, ◌++◌, length, map, vec_len, IfOk, OnOk};
 ghost use Rattle.sdb_record.specs.Layout.{wishbone};
 ghost use Rattle.sdb_record.specs.Relation.{IsValid, encoded};
-ghost use Rattle.soc_desc.specs.Accepted.{IsSoundBus};
+ghost use Rattle.soc_desc.specs.Accepted.{IsSoundBusOf, is_32_or_64};
 ghost use Rattle.soc_desc.specs.declared.description.ItemDescription.TheViews.{out-BusDescription};
 ghost use Rattle.sdb_build.specs.Tables.{octets_of, entries, item_tables, image_of};
 ghost use Rattle.sdb_build.specs.Sound.{AreSoundItems};
@@ -29,7 +29,7 @@ fn push_entries(
     width: Width,
     items: &[ItemDescription],
 ) -> Result<(), AllocError>
-    requires { AreSoundItems 0 items.now }
+    requires { AreSoundItems is_32_or_64 0 items.now }
     ensures octets { OnOk result (out.new.items ≡ out.old.items ++ octets_of (entries width (map item_tables items.now))) }
     ensures len { OnOk result (vec_len out.new ≡ vec_len out.old + 64 * length items.now) }
 {
@@ -42,7 +42,7 @@ fn push_entries(
 /// The SDB table of a bus, as the octets of its ROM: 64 for the bus itself and 64 for each item, in their order. Addresses in it
 /// are relative to the base of the bus, reserved octets are zero, and names are padded with spaces.
 pub fn table(alloc: Global, bus: &BusDescription) -> Result<Vec<u8>, NoMemory>
-    requires sound { IsSoundBus bus.now }
+    requires sound { IsSoundBusOf is_32_or_64 bus.now }
     ensures octets { IfOk result (λ v. v.items ≡ image_of bus.now) }
     ensures len { let b = out-BusDescription bus.now in IfOk result (λ v. vec_len v ≡ 64 * (length b.items + 1)) }
 {

@@ -1,3 +1,4 @@
+//! From 64 octets to a record.
 ghost use Rattle.std.specs.Prelude.{◌≡◌, ◌≤◌, IfOk, Ok, None, length};
 ghost use Rattle.std.specs.Result.{result_err};
 ghost use Rattle.sdb_record.specs.Text.{text_in as text_of, spaced, unprinted as unprinted_in};

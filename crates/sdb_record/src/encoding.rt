@@ -1,3 +1,4 @@
+//! From a record to its 64 octets.
 ghost use Rattle.std.specs.Prelude.{◌≡◌, Ok, ◌++◌};
 ghost use Rattle.sdb_record.specs.declared.kinds.Record.TheVariants.{Interconnect};
 ghost use Rattle.sdb_record.specs.Layout.{wishbone, product_fields, component_fields, interface_fields, type_field, fields as fields_of};

@@ -1,3 +1,4 @@
+//! What can be wrong with 64 octets, and the first of these.
 ghost use Rattle.std.specs.Prelude.{◌≡◌, ◌<◌, IfSome, Some};
 ghost use Rattle.sdb_record.specs.Faults.{first_fault, is_type, has_component, has_product, bad_in_name};
 

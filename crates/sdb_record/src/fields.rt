@@ -1,3 +1,4 @@
+//! Numbers in the octets of a record, the highest octet first.
 ghost use Rattle.std.specs.Prelude.{◌≡◌, ◌<◌, ◌≤◌, ◌+◌, length};
 ghost use Rattle.eb_base.specs.Field.{number_at};
 ghost use Rattle.eb_base.specs.declared.width.Width.TheVariants.{W8, W16, W32, W64};

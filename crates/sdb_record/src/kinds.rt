@@ -1,3 +1,4 @@
+//! The five records of a table.
 use eb_base::Product;
 
 /// A record of a table of the Self-Describing Bus (SDB 1.1). Addresses are in octets, relative to the base of the bus that

@@ -1,4 +1,5 @@
-// Where the fields of a record begin (SDB 1.1), and the values that are always the same.
+//! Where the fields of a record begin (SDB 1.1: `sdb_interconnect`, `sdb_device`, `sdb_bridge`, `sdb_integration` and
+//! `sdb_empty`, with `sdb_component` and `sdb_product`), and the values that are always the same.
 
 pub const RECORD_LEN: usize = 64;
 

@@ -1,3 +1,4 @@
+//! The text of a name, padded with spaces.
 ghost use Rattle.std.specs.Prelude.{◌≡◌, ◌<◌, ◌≤◌, length, take, IfSome};
 ghost use Rattle.sdb_record.specs.Text.{is_blank, text_in, unprinted};
 

@@ -6,7 +6,7 @@ use Rattle.serde_json.specs.View.{view, items_view}
 use Rattle.serde_json.specs.declared.value.Value.{Value}
 use Rattle.soc_desc.specs.declared.fault.DescFault.{DescFault}
 use Rattle.soc_desc.specs.declared.fault.DescFault.TheVariants as fault
-use Rattle.soc_desc.specs.Checks.{Path, Found, ◌>>=◌, Fails, Gives, each_from, at_place, items_len}
+use Rattle.soc_desc.specs.Checks.{Path, Found, ◌>>=◌, Fails, Gives, each_from, at_nth, items_len}
 
 pub items_len_is : (vs : List Value) → items_len (items_view vs) ≡ length vs
 items_len_is [] = refl
@@ -74,14 +74,14 @@ regroup front x (Ok xs) = ap Ok (sym (append_assoc front (x ∷ []) xs))
 regroup front x (Err e) = refl
 
 module _ {A : Type 0} (check : Path → Data → Found A) (path : Path) where
-  pub goes_on : (front : List A) (i : ℕ) (vs : List Value) (v : Value) (x : A) (total : Found (List A)) → drop i vs ≡ v ∷ drop (i + 1) vs → check (at_place path i) (view v) ≡ Ok x
+  pub goes_on : (front : List A) (i : ℕ) (vs : List Value) (v : Value) (x : A) (total : Found (List A)) → drop i vs ≡ v ∷ drop (i + 1) vs → check (at_nth path i) (view v) ≡ Ok x
       → with_front front (each_from check path i (items_view (drop i vs))) ≡ total → with_front (front ++ x ∷ []) (each_from check path (i + 1) (items_view (drop (i + 1) vs))) ≡ total
   goes_on front i vs v x total here is so_far =
       let one : with_front front (each_from check path i (items_view (drop i vs))) ≡ with_front (front ++ x ∷ []) (each_from check path (i + 1) (items_view (drop (i + 1) vs))) =
       rw (here, is) (regroup front x (each_from check path (i + 1) (items_view (drop (i + 1) vs)))) in
       sym one ∙ so_far
 
-  pub ends : (e : DescFault) (front : List A) (i : ℕ) (vs : List Value) (v : Value) (total : Found (List A)) → drop i vs ≡ v ∷ drop (i + 1) vs → Fails e (check (at_place path i) (view v))
+  pub ends : (e : DescFault) (front : List A) (i : ℕ) (vs : List Value) (v : Value) (total : Found (List A)) → drop i vs ≡ v ∷ drop (i + 1) vs → Fails e (check (at_nth path i) (view v))
       → with_front front (each_from check path i (items_view (drop i vs))) ≡ total → Fails e total
   ends e front i vs v total here h so_far =
       fails_on e _ total h (λ f. let one : with_front front (each_from check path i (items_view (drop i vs))) ≡ Err e = rw (here, f) refl in sym so_far ∙ one)

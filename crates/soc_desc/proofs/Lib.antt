@@ -4,3 +4,5 @@ pub mod Inner
 pub mod Placing
 pub mod Rules
 pub mod Sound
+pub mod Seen
+pub mod Wider

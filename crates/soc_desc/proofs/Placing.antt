@@ -6,7 +6,7 @@ use Rattle.std.specs.Bool.{⊤}
 use Rattle.std.specs.List.{find, list_all}
 use Rattle.soc_desc.specs.declared.geometry.Span.{Span}
 use Rattle.soc_desc.specs.declared.geometry.Extent.{Extent}
-use Rattle.soc_desc.specs.Checks.{Path, Found, ◌>>=◌, at_place, at_key}
+use Rattle.soc_desc.specs.Checks.{Path, Found, ◌>>=◌, at_nth, at_key}
 use Rattle.soc_desc.specs.Geometry.{ItemPlace, meets, spans_meet, placed, placed_after, apart_from, are_apart, are_within, are_placed, extents, extent_at, spans_from, span_at, located, rom_extent}
 use Rattle.std.proofs.lemmas.Bool.{and_parts, and_from}
 
@@ -81,7 +81,7 @@ ranges_are : (path : Path) (i : ℕ) (items : List ItemPlace) (s : Span) → ran
 ranges_are path i [] s = refl
 ranges_are path i (item ∷ items) s = one item.extent (ranges_are path (i + 1) items s) where
   one : (e : Option Extent) → ranges (spans_from path (i + 1) items ++ s ∷ []) ≡ extents items ++ s.extent ∷ []
-      → ranges ((span_at (at_place path i) e ++ spans_from path (i + 1) items) ++ s ∷ []) ≡ (extent_at e ++ extents items) ++ s.extent ∷ []
+      → ranges ((span_at (at_nth path i) e ++ spans_from path (i + 1) items) ++ s ∷ []) ≡ (extent_at e ++ extents items) ++ s.extent ∷ []
   one None h = h
   one (Some e) h = ap (λ es. e ∷ es) h
 

@@ -6,7 +6,7 @@ use Rattle.eb_base.proofs.NameLemmas.{IsPadded-padded}
 use Rattle.std.specs.List.{list_all}
 use Rattle.eb_base.specs.Name.{is_name, padded, are_printed}
 use Rattle.soc_desc.specs.declared.description.ItemDescription.{ItemDescription}
-use Rattle.soc_desc.specs.Accepted.{all_of, greatest, item_fields, item_levels, is_padded}
+use Rattle.soc_desc.specs.Accepted.{all_of, is_32, greatest, item_fields, item_levels, is_padded}
 
 all_of_push : (bs : List Bool) (b : Bool) → all_of bs ≡ true → b ≡ true → all_of (bs ++ b ∷ []) ≡ true
 all_of_push [] true h k = refl
@@ -24,8 +24,8 @@ map_push : {A B : Type 0} (f : A → B) (xs : List A) (x : A) → map f (xs ++ x
 map_push f [] x = refl
 map_push f (y ∷ ys) x = ap (λ zs. f y ∷ zs) (map_push f ys x)
 
-pub fields_push : (is : List ItemDescription) (x : ItemDescription) → all_of (map item_fields is) ≡ true → item_fields x ≡ true → all_of (map item_fields (is ++ x ∷ [])) ≡ true
-fields_push is x h k = ap all_of (map_push item_fields is x) ∙ all_of_push (map item_fields is) (item_fields x) h k
+pub fields_push : (is : List ItemDescription) (x : ItemDescription) → all_of (map (item_fields is_32) is) ≡ true → item_fields is_32 x ≡ true → all_of (map (item_fields is_32) (is ++ x ∷ [])) ≡ true
+fields_push is x h k = ap all_of (map_push (item_fields is_32) is x) ∙ all_of_push (map (item_fields is_32) is) (item_fields is_32 x) h k
 
 greatest_push : (ns : List ℕ) (n most : ℕ) → greatest ns ≤ most → n ≤ most → greatest (ns ++ n ∷ []) ≤ most
 greatest_push [] n most h k = omega arith

@@ -10,9 +10,11 @@ use Rattle.eb_base.specs.declared.width.Width.TheVariants.{W8, W16, W32, W64}
 use Rattle.soc_desc.specs.declared.description.Description.{Description}
 use Rattle.soc_desc.specs.declared.description.ItemDescription.{ItemDescription}
 use Rattle.soc_desc.specs.declared.description.BusDescription.{BusDescription}
-use Rattle.soc_desc.specs.declared.description.ItemDescription.TheOpen.{ItemDescription-F, BusDescription-F, Ram, Regs, Fifo, Bridge, Integration, Empty}
+use Rattle.soc_desc.specs.declared.description.ItemDescription.TheOpen.{ItemDescription-F, BusDescription-F}
 use Rattle.soc_desc.specs.declared.description.ItemDescription.TheFolds.{fold-ItemDescription, fold-BusDescription}
 use Rattle.soc_desc.specs.Checks.{is_in}
+use Rattle.soc_desc.specs.View.{Make, RamOf, RegsOf, FifoOf, OnBus, OfDevice, OfBridge, OfNote, OfEmpty, on_bus, bridged}
+use Rattle.soc_desc.specs.declared.view.Interface.{Interface}
 use Rattle.soc_desc.specs.Shape.{u64, u32, u16, u8, wait_clocks, fifo_depth, address, last_address, ram_size}
 use Rattle.soc_desc.specs.Geometry.{bus_place}
 use Rattle.soc_desc.specs.Totals.{bus_totals}
@@ -33,32 +35,46 @@ is_product p = is_in u64 p.vendor && is_in u32 p.device && is_in u32 p.version &
 abbrev pub is_reg : Reg → Bool
 is_reg r = is_in u32 r.reset
 
-abbrev pub is_abi : ℕ → ℕ → ℕ → ℕ → Bool
-is_abi wait class major minor = is_in wait_clocks wait && is_in u16 class && is_in u8 major && is_in u8 minor
+abbrev pub is_interface : Interface → Bool
+is_interface i = is_in wait_clocks i.wait && is_in u16 i.class && is_in u8 i.major && is_in u8 i.minor
 
--- the widths that a bus may have
-abbrev pub is_width : Width → Bool
-is_width W8 = false
-is_width W16 = false
-is_width W32 = true
-is_width W64 = false
+abbrev pub is_make : Make → Bool
+is_make (RamOf size) = is_in (ram_size 4) size
+is_make (RegsOf words) = nat_le 1 (length words) && nat_le (length words) 1024 && list_all is_reg words
+is_make (FifoOf depth) = is_in fifo_depth depth
+
+-- Widths that buses may have. Descriptions are read for 32 bits alone, tables are made for 64 too.
+abbrev pub is_32 : Width → Bool
+is_32 W8 = false
+is_32 W16 = false
+is_32 W32 = true
+is_32 W64 = false
+
+abbrev pub is_32_or_64 : Width → Bool
+is_32_or_64 W8 = false
+is_32_or_64 W16 = false
+is_32_or_64 W32 = true
+is_32_or_64 W64 = true
+
+abbrev pub fields_on : OnBus Bool → Bool
+fields_on (OfDevice d) = is_product d.product && is_in (address 4) d.at && is_make d.make && is_interface d.interface
+fields_on (OfBridge p at bus) = is_product p && is_in (address 4) at && bus
+fields_on (OfNote p) = is_product p
+fields_on OfEmpty = true
 
 abbrev pub item_fields_layer : ItemDescription-F Bool Bool → Bool
-item_fields_layer (Ram p at size port wait class major minor) = is_product p && is_in (address 4) at && is_in (ram_size 4) size && is_abi wait class major minor
-item_fields_layer (Regs p at words port wait class major minor) = is_product p && is_in (address 4) at && nat_le 1 (length words) && nat_le (length words) 1024 && list_all is_reg words && is_abi wait class major minor
-item_fields_layer (Fifo p at depth port wait class major minor) = is_product p && is_in (address 4) at && is_in fifo_depth depth && is_abi wait class major minor
-item_fields_layer (Bridge p at bus) = is_product p && is_in (address 4) at && bus
-item_fields_layer (Integration p) = is_product p
-item_fields_layer Empty = true
+item_fields_layer item = fields_on (on_bus item)
 
-abbrev pub bus_fields_layer : BusDescription-F Bool Bool → Bool
-bus_fields_layer b = is_product b.product && is_width b.width && is_in (last_address 4) b.last && is_in (address 4) b.sdb && nat_le (length b.items) 64 && all_of b.items
+abbrev pub bus_fields_layer : (Width → Bool) → BusDescription-F Bool Bool → Bool
+bus_fields_layer widths b =
+    is_product b.product && widths b.width && is_in (last_address 4) b.last && is_in (address 4) b.sdb && nat_le (length b.items) 64 && all_of b.items
 
-abbrev pub item_fields : ItemDescription → Bool
-item_fields = fold-ItemDescription Bool Bool item_fields_layer bus_fields_layer
+-- where buses have these widths
+abbrev pub item_fields : (Width → Bool) → ItemDescription → Bool
+item_fields widths = fold-ItemDescription Bool Bool item_fields_layer (bus_fields_layer widths)
 
-abbrev pub bus_fields : BusDescription → Bool
-bus_fields = fold-BusDescription Bool Bool item_fields_layer bus_fields_layer
+abbrev pub bus_fields : (Width → Bool) → BusDescription → Bool
+bus_fields widths = fold-BusDescription Bool Bool item_fields_layer (bus_fields_layer widths)
 
 -- ---- levels of buses
 
@@ -67,12 +83,7 @@ greatest [] = 0
 greatest (n ∷ ns) = max n (greatest ns)
 
 abbrev pub item_levels_layer : ItemDescription-F ℕ ℕ → ℕ
-item_levels_layer (Ram p at size port wait class major minor) = 0
-item_levels_layer (Regs p at words port wait class major minor) = 0
-item_levels_layer (Fifo p at depth port wait class major minor) = 0
-item_levels_layer (Bridge p at bus) = bus
-item_levels_layer (Integration p) = 0
-item_levels_layer Empty = 0
+item_levels_layer item = bridged 0 (λ at bus. bus) (on_bus item)
 
 abbrev pub bus_levels_layer : BusDescription-F ℕ ℕ → ℕ
 bus_levels_layer b = suc (greatest b.items)
@@ -85,9 +96,13 @@ bus_levels = fold-BusDescription ℕ ℕ item_levels_layer bus_levels_layer
 
 -- ---- a bus with all buses under it, and a whole description
 
-pub record IsSoundBus (bus : BusDescription) : Type 0 where
-  pub fields : bus_fields bus ≡ true
+-- where buses have these widths
+pub record IsSoundBusOf (widths : Width → Bool) (bus : BusDescription) : Type 0 where
+  pub fields : bus_fields widths bus ≡ true
   pub places : (bus_place bus).placed ≡ true
+
+abbrev pub IsSoundBus : BusDescription → Type 0
+IsSoundBus = IsSoundBusOf is_32
 
 pub record IsAccepted (d : Description) : Type 0 where
   pub depth_least : 1 ≤ d.depth

@@ -9,7 +9,7 @@ use Rattle.soc_desc.specs.declared.checks.Range.{Range}
 use Rattle.soc_desc.specs.declared.fault.DescFault.{DescFault}
 use Rattle.soc_desc.specs.declared.fault.DescFault.TheVariants as fault
 
--- a place in a description, as its text
+-- where a value stands in a description, as a text
 abbrev pub Path : Type 0
 Path = List ℕ
 
@@ -46,12 +46,12 @@ abbrev pub Gives : {X Y : Type 0} → (X → Y) → Result X DescFault → Found
 Gives view (Ok x) found = found ≡ Ok (view x)
 Gives view (Err e) found = Fails e found
 
--- the path of a key's value, and of a list's item: a slash and the key or the place
+-- the path of a key's value, and of a list's item: a slash and the key or the number
 abbrev pub at_key : Path → List ℕ → Path
 at_key path key = path ++ 47 ∷ key
 
-abbrev pub at_place : Path → ℕ → Path
-at_place path i = path ++ 47 ∷ decimal i
+abbrev pub at_nth : Path → ℕ → Path
+at_nth path i = path ++ 47 ∷ decimal i
 
 -- ---- objects
 
@@ -64,6 +64,10 @@ abbrev pub refuse_unknown : Path → Option (List ℕ) → Members → Found Mem
 refuse_unknown path None ms = Ok ms
 refuse_unknown path (Some key) ms = Err (fault.Unknown (at_key path key))
 
+-- the members, if they have no keys but these
+abbrev pub known : List (List ℕ) → Path → Members → Found Members
+known keys path ms = refuse_unknown path (unknown keys ms) ms
+
 -- what a value is where it has the right JSON type
 abbrev pub kind_or : {A : Type 0} → Path → Option A → Found A
 kind_or path (Some x) = Ok x
@@ -75,7 +79,7 @@ object path d = kind_or path (as_object d)
 
 -- an object that has no keys but these
 abbrev pub object_of : List (List ℕ) → Path → Data → Found Members
-object_of keys path d = object path d >>= λ ms. refuse_unknown path (unknown keys ms) ms
+object_of keys path d = object path d >>= known keys path
 
 -- the value of a key that must be there, as it is checked
 abbrev pub required_at : {A : Type 0} → (Path → Data → Found A) → Path → List ℕ → Option Data → Found A
@@ -162,7 +166,7 @@ items_len (item d ds) = suc (items_len ds)
 -- the items from number i on, each as it is checked
 abbrev pub each_from : {A : Type 0} → (Path → Data → Found A) → Path → ℕ → Items → Found (List A)
 each_from check path i no_items = Ok []
-each_from check path i (item d ds) = check (at_place path i) d >>= λ x. each_from check path (i + 1) ds >>= λ xs. Ok (x ∷ xs)
+each_from check path i (item d ds) = check (at_nth path i) d >>= λ x. each_from check path (i + 1) ds >>= λ xs. Ok (x ∷ xs)
 
 -- as many items as there may be
 abbrev pub sized : ℕ → ℕ → Path → Items → Found Items

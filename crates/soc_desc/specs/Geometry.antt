@@ -6,9 +6,10 @@ use Rattle.soc_desc.specs.declared.geometry.Span.{Span}
 use Rattle.soc_desc.specs.declared.geometry.Extent.{Extent}
 use Rattle.soc_desc.specs.declared.description.ItemDescription.{ItemDescription}
 use Rattle.soc_desc.specs.declared.description.BusDescription.{BusDescription}
-use Rattle.soc_desc.specs.declared.description.ItemDescription.TheOpen.{ItemDescription-F, BusDescription-F, Ram, Regs, Fifo, Bridge, Integration, Empty}
+use Rattle.soc_desc.specs.declared.description.ItemDescription.TheOpen.{ItemDescription-F, BusDescription-F}
 use Rattle.soc_desc.specs.declared.description.ItemDescription.TheFolds.{fold-ItemDescription, fold-BusDescription}
-use Rattle.soc_desc.specs.Checks.{Path, Found, ◌>>=◌, at_key, at_place}
+use Rattle.soc_desc.specs.Checks.{Path, Found, ◌>>=◌, at_key, at_nth}
+use Rattle.soc_desc.specs.View.{octets_in, OnBus, OfDevice, OfBridge, OfNote, OfEmpty, on_bus}
 
 -- ---- the addresses that an item and a ROM take
 
@@ -58,13 +59,18 @@ pub record ItemPlace : Type 0 where
 abbrev pub leaf_at : Option Extent → ItemPlace
 leaf_at extent = record { extent = extent; placed = true; buses = λ path. [] }
 
+abbrev pub place_on : OnBus BusPlace → ItemPlace
+place_on (OfDevice d) = leaf_at (Some (octets_at d.at (octets_in d.make)))
+place_on (OfBridge p at bus) = record {
+  extent = Some (record { first = at; last = at + bus.last });
+  placed = bus.placed;
+  buses = λ path. bus.buses (at_key path (codes "bus"));
+}
+place_on (OfNote p) = leaf_at None
+place_on OfEmpty = leaf_at None
+
 abbrev pub item_layer : ItemDescription-F ItemPlace BusPlace → ItemPlace
-item_layer (Ram p at size port wait class major minor) = leaf_at (Some (octets_at at size))
-item_layer (Regs p at words port wait class major minor) = leaf_at (Some (octets_at at (4 * length words)))
-item_layer (Fifo p at depth port wait class major minor) = leaf_at (Some (octets_at at 8))
-item_layer (Bridge p at bus) = record { extent = Some (record { first = at; last = at + bus.last }); placed = bus.placed; buses = λ path. bus.buses (at_key path (codes "bus")) }
-item_layer (Integration p) = leaf_at None
-item_layer Empty = leaf_at None
+item_layer item = place_on (on_bus item)
 
 abbrev pub extent_at : Option Extent → List Extent
 extent_at None = []
@@ -81,11 +87,11 @@ extents (item ∷ items) = extent_at item.extent ++ extents items
 -- the items from number i on
 abbrev pub spans_from : Path → ℕ → List ItemPlace → List Span
 spans_from path i [] = []
-spans_from path i (item ∷ items) = span_at (at_place path i) item.extent ++ spans_from path (i + 1) items
+spans_from path i (item ∷ items) = span_at (at_nth path i) item.extent ++ spans_from path (i + 1) items
 
 abbrev pub buses_from : Path → ℕ → List ItemPlace → List Located
 buses_from path i [] = []
-buses_from path i (item ∷ items) = item.buses (at_place path i) ++ buses_from path (i + 1) items
+buses_from path i (item ∷ items) = item.buses (at_nth path i) ++ buses_from path (i + 1) items
 
 abbrev pub located : Path → ℕ → ℕ → List ItemPlace → Located
 located path last sdb items =

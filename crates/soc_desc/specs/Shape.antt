@@ -17,8 +17,8 @@ use Rattle.soc_desc.specs.declared.description.BusDescription.{BusDescription, r
 use Rattle.soc_desc.specs.declared.description.Description.{Description}
 use Rattle.soc_desc.specs.declared.shape.ItemKind.{ItemKind}
 use Rattle.soc_desc.specs.declared.shape.ItemKind.TheVariants as kind
-use Rattle.soc_desc.specs.declared.shape.Interface.{Interface}
-use Rattle.soc_desc.specs.Checks.{Path, Found, ◌>>=◌, ◌>>◌, object, object_of, refuse_unknown, unknown, required, optional, from_to, number, text, Word, word, list}
+use Rattle.soc_desc.specs.declared.view.Interface.{Interface}
+use Rattle.soc_desc.specs.Checks.{Path, Found, ◌>>=◌, ◌>>◌, object, object_of, known, required, optional, from_to, number, text, Word, word, list}
 
 -- ---- the numbers that keys take
 
@@ -102,13 +102,16 @@ reg path d = do
 
 -- ---- an item, by its kind
 
-abbrev pub interface_keys : List (List ℕ)
-interface_keys = codes "port" ∷ codes "wait" ∷ codes "abi_class" ∷ codes "abi_major" ∷ codes "abi_minor" ∷ []
+-- the keys of a device, of which one is its kind's own
+abbrev pub device_keys : List ℕ → List (List ℕ)
+device_keys own =
+    codes "kind" ∷ codes "product" ∷ codes "at" ∷ own
+    ∷ codes "port" ∷ codes "wait" ∷ codes "abi_class" ∷ codes "abi_major" ∷ codes "abi_minor" ∷ []
 
 abbrev pub keys : ItemKind → List (List ℕ)
-keys kind.Ram = codes "kind" ∷ codes "product" ∷ codes "at" ∷ codes "size" ∷ interface_keys
-keys kind.Regs = codes "kind" ∷ codes "product" ∷ codes "at" ∷ codes "words" ∷ interface_keys
-keys kind.Fifo = codes "kind" ∷ codes "product" ∷ codes "at" ∷ codes "depth" ∷ interface_keys
+keys kind.Ram = device_keys (codes "size")
+keys kind.Regs = device_keys (codes "words")
+keys kind.Fifo = device_keys (codes "depth")
 keys kind.Bridge = codes "kind" ∷ codes "product" ∷ codes "at" ∷ codes "bus" ∷ []
 keys kind.Integration = codes "kind" ∷ codes "product" ∷ []
 keys kind.Empty = codes "kind" ∷ []
@@ -173,8 +176,8 @@ unfoldable pub item : (Path → Data → Found BusDescription) → Path → Data
 item bus path d = do
   ms ← object path d
   kind ← required (word kinds) path (codes "kind") ms
-  known ← refuse_unknown path (unknown (keys kind) ms) ms
-  item_of bus kind path known
+  own ← known (keys kind) path ms
+  item_of bus kind path own
 
 -- ---- a bus, whose items are checked by an_item
 

@@ -10,11 +10,11 @@ use Rattle.soc_desc.specs.declared.description.ItemDescription.TheViews.{out-Bus
 use Rattle.soc_desc.specs.declared.description.BusDescription.{BusDescription}
 use Rattle.soc_desc.specs.declared.geometry.Extent.{Extent}
 use Rattle.soc_desc.specs.Geometry.{item_place, extent_at, extents, rom_extent, are_within}
-use Rattle.soc_desc.specs.Accepted.{item_fields, item_levels, bus_levels, IsSoundBus}
+use Rattle.soc_desc.specs.Accepted.{is_32, is_32_or_64, item_fields, item_levels, bus_levels, IsSoundBus, IsSoundBusOf}
 
 -- an item on a bus with this last address
 pub record IsSoundItem (last : ℕ) (item : ItemDescription) : Type 0 where
-  pub fields : item_fields item ≡ true
+  pub fields : item_fields is_32 item ≡ true
   pub behind : (item_place item).placed ≡ true
   pub within : are_within last (extent_at (item_place item).extent) ≡ true
   pub below : last < 2 ^ 64
@@ -94,3 +94,8 @@ LevelsFall = (bus : BusDescription) → All (λ item. item_levels item < bus_lev
 
 abbrev pub LevelsOfBridge : Type 0
 LevelsOfBridge = (p : Product) (at : ℕ) (bus : BusDescription) → item_levels (Bridge p at bus) ≡ bus_levels bus
+
+-- ---- widths: a sound bus of 32 data bits is one of 32 or 64
+
+abbrev pub WiderOfSound : Type 0
+WiderOfSound = (bus : BusDescription) → IsSoundBus bus → IsSoundBusOf is_32_or_64 bus

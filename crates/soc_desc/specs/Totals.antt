@@ -4,9 +4,10 @@ use Rattle.soc_desc.specs.declared.fault.DescFault.TheVariants as fault
 use Rattle.soc_desc.specs.declared.totals.Totals.{Totals}
 use Rattle.soc_desc.specs.declared.description.ItemDescription.{ItemDescription}
 use Rattle.soc_desc.specs.declared.description.BusDescription.{BusDescription}
-use Rattle.soc_desc.specs.declared.description.ItemDescription.TheOpen.{ItemDescription-F, BusDescription-F, Ram, Regs, Fifo, Bridge, Integration, Empty}
+use Rattle.soc_desc.specs.declared.description.ItemDescription.TheOpen.{ItemDescription-F, BusDescription-F}
 use Rattle.soc_desc.specs.declared.description.ItemDescription.TheFolds.{fold-ItemDescription, fold-BusDescription}
 use Rattle.soc_desc.specs.Checks.{Path, Found}
+use Rattle.soc_desc.specs.View.{Make, RamOf, RegsOf, FifoOf, OnBus, OfDevice, OfBridge, OfNote, OfEmpty, on_bus}
 
 -- devices, records of SDB tables, octets of RAM
 abbrev pub of : ℕ → ℕ → ℕ → Totals
@@ -19,14 +20,20 @@ abbrev pub sum_of : List Totals → Totals
 sum_of [] = of 0 0 0
 sum_of (t ∷ ts) = plus t (sum_of ts)
 
+abbrev pub ram_in : Make → ℕ
+ram_in (RamOf size) = size
+ram_in (RegsOf words) = 0
+ram_in (FifoOf depth) = 0
+
 -- each item has a record
+abbrev pub totals_on : OnBus Totals → Totals
+totals_on (OfDevice d) = of 1 1 (ram_in d.make)
+totals_on (OfBridge p at bus) = plus (of 0 1 0) bus
+totals_on (OfNote p) = of 0 1 0
+totals_on OfEmpty = of 0 1 0
+
 abbrev pub item_layer : ItemDescription-F Totals Totals → Totals
-item_layer (Ram p at size port wait class major minor) = of 1 1 size
-item_layer (Regs p at words port wait class major minor) = of 1 1 0
-item_layer (Fifo p at depth port wait class major minor) = of 1 1 0
-item_layer (Bridge p at bus) = plus (of 0 1 0) bus
-item_layer (Integration p) = of 0 1 0
-item_layer Empty = of 0 1 0
+item_layer item = totals_on (on_bus item)
 
 -- a bus has the record of its interconnect, and what its items have
 abbrev pub bus_layer : BusDescription-F Totals Totals → Totals

@@ -4,7 +4,7 @@ ghost use Rattle.std.specs.List.{list_any};
 ghost use Rattle.std.specs.Str.{bytes_eq};
 ghost use Rattle.serde_json.specs.View.{view, items_view, members_view};
 ghost use Rattle.serde_json.specs.Find.{get_member};
-ghost use Rattle.soc_desc.specs.Checks.{Gives, object, object_of, unknown, required, optional, number, number_of, hex_of, digit, digits_after, is_in, at_key, refuse_unknown};
+ghost use Rattle.soc_desc.specs.Checks.{Gives, object, object_of, unknown, required, optional, number, number_of, hex_of, digit, digits_after, is_in, at_key, known, refuse_unknown};
 
 use crate::fault::DescFault;
 use crate::path::Path;
@@ -41,7 +41,8 @@ pub fn object_of<'v>(
     value: &'v Value,
     keys: &[&str],
 ) -> Result<&'v Map<String, Value>, DescFault>
-    ensures { Gives (λ m. members_view m.now.entries) result (object_of (map (λ k. k.now) keys.now) path.now (view value.now)) }
+    ensures { Gives (λ m. members_view m.now.entries) result
+        (object_of (map (λ k. k.now) keys.now) path.now (view value.now)) }
 {
     let members = object(alloc, path, value)?;
     known(alloc, path, members, keys)
@@ -54,7 +55,8 @@ pub fn known<'v>(
     members: &'v Map<String, Value>,
     keys: &[&str],
 ) -> Result<&'v Map<String, Value>, DescFault>
-    ensures { Gives (λ m. members_view m.now.entries) result (refuse_unknown path.now (unknown (map (λ k. k.now) keys.now) (members_view members.now.entries)) (members_view members.now.entries)) }
+    ensures { Gives (λ m. members_view m.now.entries) result
+        (known (map (λ k. k.now) keys.now) path.now (members_view members.now.entries)) }
 {
     match unknown(members, keys) {
         None => Ok(members),
@@ -121,7 +123,8 @@ pub fn number_or(
 ) -> Result<u64, DescFault>
     requires step { 0 < range.step }
     requires missing { is_in range missing ≡ true }
-    ensures found { Gives (λ n. n) result (optional (number range) missing path.now key.now (members_view members.now.entries)) }
+    ensures found { Gives (λ n. n) result
+        (optional (number range) missing path.now key.now (members_view members.now.entries)) }
     ensures most { IfOk result (λ n. n ≤ range.most) }
     ensures inside { IfOk result (λ n. is_in range n ≡ true) }
 {

@@ -1,3 +1,4 @@
+//! A description, as it was read.
 use eb_base::{Product, RegList, Width};
 
 /// A described system.

@@ -1,3 +1,4 @@
+//! The rules that a description can break.
 ghost use Rattle.std.specs.Prelude.{◌≡◌};
 ghost use Rattle.soc_desc.specs.declared.fault.DescFault.TheVariants.{NoMemory};
 
@@ -17,7 +18,7 @@ pub enum DescFault {
     Kind(Path),
     /// A number or the length of a list is out of its range.
     Range(Path),
-    /// What stands at the second place takes an address that what stands at the first one has.
+    /// What stands at the second path takes an address that what stands at the first one has.
     Overlap(Path, Path),
     /// An item or a ROM takes addresses beyond the last one of its bus.
     Outside(Path),

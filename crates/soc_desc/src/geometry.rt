@@ -8,6 +8,7 @@ ghost use Rattle.soc_desc.specs.declared.description.ItemDescription.TheViews.{o
 use crate::description::{BusDescription, ItemDescription};
 use crate::fault::DescFault;
 use crate::path::Path;
+use crate::view::{ItemView, octets_in, on_bus};
 use std::alloc::{AllocError, Global};
 
 /// The addresses that something takes on a bus; wide enough for a range that would end beyond 64 bits.
@@ -38,16 +39,14 @@ fn octets_at(at: u64, octets: u128) -> Extent
 fn extent_of(item: &ItemDescription) -> Option<Extent>
     ensures { result ≡ (item_place item.now).extent }
 {
-    match item {
-        ItemDescription::Ram { at, size, .. } => Some(octets_at(*at, u128::from(*size))),
-        ItemDescription::Regs { at, words, .. } => Some(octets_at(*at, 4 * (words.len() as u128))),
-        ItemDescription::Fifo { at, .. } => Some(octets_at(*at, 8)),
-        ItemDescription::Bridge { at, bus, .. } => Some(Extent {
-            first: u128::from(*at),
-            last: u128::from(*at) + u128::from(bus.last),
+    match on_bus(item) {
+        ItemView::Device(device) => Some(octets_at(device.at, octets_in(device.make))),
+        ItemView::Bridge { at, bus, .. } => Some(Extent {
+            first: u128::from(at),
+            last: u128::from(at) + u128::from(bus.last),
         }),
-        ItemDescription::Integration { .. } => None,
-        ItemDescription::Empty => None,
+        ItemView::Note { .. } => None,
+        ItemView::Empty => None,
     }
 }
 
@@ -110,7 +109,7 @@ fn item_spans(
     for i in 0..items.len() {
         if let Some(extent) = extent_of(&items[i]) {
             spans.push(Span {
-                path: path.place(alloc, i)?,
+                path: path.nth(alloc, i)?,
                 extent,
             })?;
         }
@@ -120,10 +119,11 @@ fn item_spans(
 
 /// The spans of all that takes addresses on a bus, the ROM last.
 fn bus_spans(alloc: Global, path: &Path, bus: &BusDescription) -> Result<Vec<Span>, AllocError>
-    ensures { let b = out-BusDescription bus.now in IfOk result (λ v. v.items ≡ (located path.now b.last b.sdb (map item_place b.items)).spans) }
+    ensures { let b = out-BusDescription bus.now in
+        IfOk result (λ v. v.items ≡ (located path.now b.last b.sdb (map item_place b.items)).spans) }
 {
-    let place = path.key(alloc, "items")?;
-    let mut spans = item_spans(alloc, &place, bus.items.as_slice())?;
+    let inner = path.key(alloc, "items")?;
+    let mut spans = item_spans(alloc, &inner, bus.items.as_slice())?;
     spans.push(Span {
         path: path.key(alloc, "sdb")?,
         extent: rom_extent(bus.sdb, bus.items.len()),
@@ -133,8 +133,12 @@ fn bus_spans(alloc: Global, path: &Path, bus: &BusDescription) -> Result<Vec<Spa
 
 /// Checks what stands on one bus.
 fn bus_placed(alloc: Global, path: &Path, bus: &BusDescription) -> Result<(), DescFault>
-    ensures found { let b = out-BusDescription bus.now in Gives (λ u. tt) result (placed_after b.last [] (located path.now b.last b.sdb (map item_place b.items)).spans) }
-    ensures sound { let b = out-BusDescription bus.now in IfOk result (λ u. are_placed b.last (extents (map item_place b.items) ++ rom_extent b.sdb (length (map item_place b.items)) ∷ []) ≡ true) }
+    ensures found { let b = out-BusDescription bus.now in
+        Gives (λ u. tt) result
+        (placed_after b.last [] (located path.now b.last b.sdb (map item_place b.items)).spans) }
+    ensures sound { let b = out-BusDescription bus.now in
+        IfOk result
+        (λ u. are_placed b.last (extents (map item_place b.items) ++ rom_extent b.sdb (length (map item_place b.items)) ∷ []) ≡ true) }
 {
     let spans = bus_spans(alloc, path, bus)?;
     spans_placed(alloc, bus.last, &spans)
@@ -147,8 +151,8 @@ pub fn geometry(alloc: Global, path: &Path, bus: &BusDescription) -> Result<(), 
     ensures sound { IfOk result (λ u. (bus_place bus.now).placed ≡ true) }
 {
     bus_placed(alloc, path, bus)?;
-    let place = path.key(alloc, "items")?;
-    inner_placed(alloc, &place, bus.items.as_slice())
+    let inner = path.key(alloc, "items")?;
+    inner_placed(alloc, &inner, bus.items.as_slice())
 }
 
 #[cycle(geometry)]
@@ -157,8 +161,8 @@ fn inner_placed(alloc: Global, path: &Path, items: &[ItemDescription]) -> Result
     ensures sound { IfOk result (λ u. all_behind (map item_place items.now) ≡ true) }
 {
     for i in 0..items.len() {
-        let place = path.place(alloc, i)?;
-        item_placed(alloc, &place, &items[i])?;
+        let inner = path.nth(alloc, i)?;
+        item_placed(alloc, &inner, &items[i])?;
     }
     Ok(())
 }
@@ -170,8 +174,8 @@ fn item_placed(alloc: Global, path: &Path, item: &ItemDescription) -> Result<(),
 {
     match item {
         ItemDescription::Bridge { bus, .. } => {
-            let place = path.key(alloc, "bus")?;
-            geometry(alloc, &place, bus)
+            let inner = path.key(alloc, "bus")?;
+            geometry(alloc, &inner, bus)
         }
         _ => Ok(()),
     }

@@ -1,3 +1,4 @@
+//! Where a value stands in a description.
 ghost use Rattle.std.specs.Prelude.{◌≡◌, ◌<◌, [], ◌∷◌, ◌++◌, length, IfOk, OnOk, OnErr, Some, slice_get};
 ghost use Rattle.std.specs.Fmt.{decimal};
 
@@ -5,7 +6,7 @@ use eb_base::NoMemory;
 use std::alloc::{AllocError, Global};
 use std::marker::Model;
 
-/// The place of a value in a description: for each step a slash and a key or a list place, as `/bus/items/0/at`.
+/// Where a value stands in a description: for each step a slash and a key or a number, as `/bus/items/0/at`.
 #[derive(Debug, Drop)]
 pub struct Path {
     octets: Vec<u8>,
@@ -54,7 +55,7 @@ impl Path {
         self.octets.as_slice()
     }
 
-    /// The place of the whole.
+    /// The path of the whole.
     pub(crate) fn root(alloc: Global) -> Path
         ensures empty { result ≡ [] }
     {
@@ -71,7 +72,7 @@ impl Path {
         })
     }
 
-    /// The place of a key's value.
+    /// The path of a key's value.
     pub(crate) fn key(&self, alloc: Global, key: &str) -> Result<Path, AllocError>
         ensures step { IfOk result (λ path. path ≡ self.now ++ 47 ∷ key.now) }
     {
@@ -81,8 +82,8 @@ impl Path {
         Ok(Path { octets })
     }
 
-    /// The place of a list's item.
-    pub(crate) fn place(&self, alloc: Global, i: usize) -> Result<Path, AllocError>
+    /// The path of the item with this number, of a list.
+    pub(crate) fn nth(&self, alloc: Global, i: usize) -> Result<Path, AllocError>
         ensures step { IfOk result (λ path. path ≡ self.now ++ 47 ∷ decimal i) }
     {
         let digits = format!(in alloc; "{i}")?;

@@ -2,14 +2,15 @@
 ghost use Rattle.std.specs.Prelude.{◌≡◌, ◌≤◌, ◌+◌, IfOk, true, map, length};
 ghost use Rattle.std.specs.List.{list_all};
 ghost use Rattle.serde_json.specs.View.{view, items_view, members_view};
-ghost use Rattle.soc_desc.specs.Checks.{Gives, required, optional, word, list, each_from, refuse_unknown, unknown};
-ghost use Rattle.soc_desc.specs.Shape.{product, name, reg, modes, ports, kinds, interface, ram_item, regs_item, fifo_item, integration_item, bridge_item, item, bus_of, bus, root, keys};
-ghost use Rattle.soc_desc.specs.Accepted.{all_of, greatest, is_padded, is_product, is_reg, is_abi, item_fields, bus_fields, item_levels, bus_levels};
+ghost use Rattle.soc_desc.specs.Checks.{Gives, required, optional, word, list, each_from, known};
+ghost use Rattle.soc_desc.specs.Shape.{product, name, reg, modes, ports, kinds, interface, ram_item, regs_item, fifo_item, integration_item, bridge_item, item, bus_of, bus, root, keys, device_keys};
+ghost use Rattle.soc_desc.specs.Accepted.{all_of, greatest, is_padded, is_product, is_reg, is_interface, is_32, item_fields, bus_fields, item_levels, bus_levels};
 
 use crate::checks::{Range, find, known, number_at, number_or, object, object_of};
 use crate::description::{BusDescription, Description, ItemDescription, Items, PortWord};
 use crate::fault::DescFault;
 use crate::path::Path;
+use crate::view::Interface;
 use eb_base::{Mode, Name, Product, Reg, RegList, Width};
 use serde_json::{Map, Value};
 use std::alloc::Global;
@@ -109,16 +110,6 @@ pub enum ItemKind {
     Empty,
 }
 
-/// What RAM, registers and FIFOs have in common: how they are joined to their bus, and the ABI that their SDB records name.
-#[derive(Clone, Copy)]
-pub struct Interface {
-    pub port: PortWord,
-    pub wait: u8,
-    pub class: u16,
-    pub major: u8,
-    pub minor: u8,
-}
-
 fn name_at(
     alloc: Global,
     path: &Path,
@@ -166,7 +157,8 @@ fn port_or(
     key: &str,
     missing: PortWord,
 ) -> Result<PortWord, DescFault>
-    ensures { Gives (λ p. p) result (optional (word ports) missing path.now key.now (members_view members.now.entries)) }
+    ensures { Gives (λ p. p) result
+        (optional (word ports) missing path.now key.now (members_view members.now.entries)) }
 {
     let Some(value) = find(members, key) else {
         return Ok(missing);
@@ -216,8 +208,8 @@ fn product_at(
     match find(members, key) {
         None => Err(DescFault::Missing(path.key(alloc, key)?)),
         Some(value) => {
-            let place = path.key(alloc, key)?;
-            product(alloc, &place, value)
+            let inner = path.key(alloc, key)?;
+            product(alloc, &inner, value)
         }
     }
 }
@@ -240,7 +232,7 @@ fn interface_at(
     members: &Map<String, Value>,
 ) -> Result<Interface, DescFault>
     ensures found { Gives (λ a. a) result (interface path.now (members_view members.now.entries)) }
-    ensures fields { IfOk result (λ a. is_abi a.wait a.class a.major a.minor ≡ true) }
+    ensures fields { IfOk result (λ a. is_interface a ≡ true) }
 {
     let port = port_or(alloc, path, members, "port", PortWord::Pipelined)?;
     let wait = number_or(alloc, path, members, "wait", WAIT, 0)? as u8;
@@ -270,17 +262,17 @@ fn words_at(
     let Some(value) = find(members, key) else {
         return Err(DescFault::Missing(path.key(alloc, key)?));
     };
-    let place = path.key(alloc, key)?;
+    let inner = path.key(alloc, key)?;
     let Some(values) = value.as_array() else {
-        return Err(DescFault::Kind(place));
+        return Err(DescFault::Kind(inner));
     };
     if values.len() > 1024 {
-        return Err(DescFault::TooMany(place));
+        return Err(DescFault::TooMany(inner));
     }
     if values.is_empty() {
-        return Err(DescFault::Range(place));
+        return Err(DescFault::Range(inner));
     }
-    regs(alloc, &place, values)
+    regs(alloc, &inner, values)
 }
 
 fn regs(alloc: Global, path: &Path, values: &Vec<Value>) -> Result<RegList, DescFault>
@@ -290,8 +282,8 @@ fn regs(alloc: Global, path: &Path, values: &Vec<Value>) -> Result<RegList, Desc
 {
     let mut regs = Vec::new(alloc);
     for i in 0..values.len() {
-        let place = path.place(alloc, i)?;
-        let one = reg(alloc, &place, &values[i])?;
+        let inner = path.nth(alloc, i)?;
+        let one = reg(alloc, &inner, &values[i])?;
         regs.push(one)?;
     }
     Ok(RegList::of(regs))
@@ -319,64 +311,44 @@ fn kind_at(
     }
 }
 
-/// The keys that an item of a kind has.
+/// The members of a device, if it has no keys but those of its kind, of which `own` is the one that no other kind has.
+fn known_device<'v>(
+    alloc: Global,
+    path: &Path,
+    members: &'v Map<String, Value>,
+    own: &str,
+) -> Result<&'v Map<String, Value>, DescFault>
+    ensures { Gives (λ m. members_view m.now.entries) result
+        (known (device_keys own.now) path.now (members_view members.now.entries)) }
+{
+    let keys = [
+        "kind",
+        "product",
+        "at",
+        own,
+        "port",
+        "wait",
+        "abi_class",
+        "abi_major",
+        "abi_minor",
+    ];
+    known(alloc, path, members, &keys)
+}
+
+/// The members of an item, if it has no keys but those of its kind.
 fn known_for<'v>(
     alloc: Global,
     path: &Path,
     members: &'v Map<String, Value>,
     kind: ItemKind,
 ) -> Result<&'v Map<String, Value>, DescFault>
-    ensures { Gives (λ m. members_view m.now.entries) result (refuse_unknown path.now (unknown (keys kind) (members_view members.now.entries)) (members_view members.now.entries)) }
+    ensures { Gives (λ m. members_view m.now.entries) result
+        (known (keys kind) path.now (members_view members.now.entries)) }
 {
     match kind {
-        ItemKind::Ram => known(
-            alloc,
-            path,
-            members,
-            &[
-                "kind",
-                "product",
-                "at",
-                "size",
-                "port",
-                "wait",
-                "abi_class",
-                "abi_major",
-                "abi_minor",
-            ],
-        ),
-        ItemKind::Regs => known(
-            alloc,
-            path,
-            members,
-            &[
-                "kind",
-                "product",
-                "at",
-                "words",
-                "port",
-                "wait",
-                "abi_class",
-                "abi_major",
-                "abi_minor",
-            ],
-        ),
-        ItemKind::Fifo => known(
-            alloc,
-            path,
-            members,
-            &[
-                "kind",
-                "product",
-                "at",
-                "depth",
-                "port",
-                "wait",
-                "abi_class",
-                "abi_major",
-                "abi_minor",
-            ],
-        ),
+        ItemKind::Ram => known_device(alloc, path, members, "size"),
+        ItemKind::Regs => known_device(alloc, path, members, "words"),
+        ItemKind::Fifo => known_device(alloc, path, members, "depth"),
         ItemKind::Bridge => known(alloc, path, members, &["kind", "product", "at", "bus"]),
         ItemKind::Integration => known(alloc, path, members, &["kind", "product"]),
         ItemKind::Empty => known(alloc, path, members, &["kind"]),
@@ -391,7 +363,7 @@ fn ram_item(
 ) -> Result<ItemDescription, DescFault>
     ensures found { Gives (λ i. i) result (ram_item path.now (members_view members.now.entries)) }
     ensures levels { IfOk result (λ i. item_levels i ≡ 0) }
-    ensures fields { IfOk result (λ i. item_fields i ≡ true) }
+    ensures fields { IfOk result (λ i. item_fields is_32 i ≡ true) }
 {
     let product = product_at(alloc, path, members, "product")?;
     let at = number_at(alloc, path, members, "at", ADDRESS)?;
@@ -417,7 +389,7 @@ fn regs_item(
 ) -> Result<ItemDescription, DescFault>
     ensures found { Gives (λ i. i) result (regs_item path.now (members_view members.now.entries)) }
     ensures levels { IfOk result (λ i. item_levels i ≡ 0) }
-    ensures fields { IfOk result (λ i. item_fields i ≡ true) }
+    ensures fields { IfOk result (λ i. item_fields is_32 i ≡ true) }
 {
     let product = product_at(alloc, path, members, "product")?;
     let at = number_at(alloc, path, members, "at", ADDRESS)?;
@@ -443,7 +415,7 @@ fn fifo_item(
 ) -> Result<ItemDescription, DescFault>
     ensures found { Gives (λ i. i) result (fifo_item path.now (members_view members.now.entries)) }
     ensures levels { IfOk result (λ i. item_levels i ≡ 0) }
-    ensures fields { IfOk result (λ i. item_fields i ≡ true) }
+    ensures fields { IfOk result (λ i. item_fields is_32 i ≡ true) }
 {
     let product = product_at(alloc, path, members, "product")?;
     let at = number_at(alloc, path, members, "at", ADDRESS)?;
@@ -469,7 +441,7 @@ fn integration_item(
 ) -> Result<ItemDescription, DescFault>
     ensures found { Gives (λ i. i) result (integration_item path.now (members_view members.now.entries)) }
     ensures levels { IfOk result (λ i. item_levels i ≡ 0) }
-    ensures fields { IfOk result (λ i. item_fields i ≡ true) }
+    ensures fields { IfOk result (λ i. item_fields is_32 i ≡ true) }
 {
     let product = product_at(alloc, path, members, "product")?;
     Ok(ItemDescription::Integration { product })
@@ -485,7 +457,7 @@ fn bridge_item(
 ) -> Result<ItemDescription, DescFault>
     ensures found { Gives (λ i. i) result (bridge_item (bus levels) path.now (members_view members.now.entries)) }
     ensures levels { IfOk result (λ i. item_levels i ≤ levels) }
-    ensures fields { IfOk result (λ i. item_fields i ≡ true) }
+    ensures fields { IfOk result (λ i. item_fields is_32 i ≡ true) }
 {
     let product = product_at(alloc, path, members, "product")?;
     let at = number_at(alloc, path, members, "at", ADDRESS)?;
@@ -503,7 +475,7 @@ fn item(
 ) -> Result<ItemDescription, DescFault>
     ensures found { Gives (λ i. i) result (item (bus levels) path.now (view value.now)) }
     ensures levels { IfOk result (λ i. item_levels i ≤ levels) }
-    ensures fields { IfOk result (λ i. item_fields i ≡ true) }
+    ensures fields { IfOk result (λ i. item_fields is_32 i ≡ true) }
 {
     let members = object(alloc, path, value)?;
     let kind = kind_at(alloc, path, members, "kind")?;
@@ -522,13 +494,13 @@ fn item(
 fn items(alloc: Global, path: &Path, values: &Vec<Value>, levels: u32) -> Result<Items, DescFault>
     ensures found { Gives (λ v. v) result (each_from (item (bus levels)) path.now 0 (items_view values.now.items)) }
     ensures levels { IfOk result (λ v. greatest (map item_levels v) ≤ levels) }
-    ensures fields { IfOk result (λ v. all_of (map item_fields v) ≡ true) }
+    ensures fields { IfOk result (λ v. all_of (map (item_fields is_32) v) ≡ true) }
     ensures count { IfOk result (λ v. length v ≡ length values.now.items) }
 {
     let mut items = Vec::new(alloc);
     for i in 0..values.len() {
-        let place = path.place(alloc, i)?;
-        let one = item(alloc, &place, &values[i], levels)?;
+        let inner = path.nth(alloc, i)?;
+        let one = item(alloc, &inner, &values[i], levels)?;
         items.push(one)?;
     }
     Ok(Items::from_vec(items))
@@ -543,22 +515,23 @@ fn items_at(
     key: &str,
     levels: u32,
 ) -> Result<Items, DescFault>
-    ensures found { Gives (λ v. v) result (required (list 0 64 (item (bus levels))) path.now key.now (members_view members.now.entries)) }
+    ensures found { Gives (λ v. v) result
+        (required (list 0 64 (item (bus levels))) path.now key.now (members_view members.now.entries)) }
     ensures levels { IfOk result (λ v. greatest (map item_levels v) ≤ levels) }
-    ensures fields { IfOk result (λ v. all_of (map item_fields v) ≡ true) }
+    ensures fields { IfOk result (λ v. all_of (map (item_fields is_32) v) ≡ true) }
     ensures count { IfOk result (λ v. length v ≤ 64) }
 {
     let Some(value) = find(members, key) else {
         return Err(DescFault::Missing(path.key(alloc, key)?));
     };
-    let place = path.key(alloc, key)?;
+    let inner = path.key(alloc, key)?;
     let Some(values) = value.as_array() else {
-        return Err(DescFault::Kind(place));
+        return Err(DescFault::Kind(inner));
     };
     if values.len() > 64 {
-        return Err(DescFault::TooMany(place));
+        return Err(DescFault::TooMany(inner));
     }
-    items(alloc, &place, values, levels)
+    items(alloc, &inner, values, levels)
 }
 
 #[cycle(bus)]
@@ -566,7 +539,7 @@ fn items_at(
 fn bus(alloc: Global, path: &Path, value: &Value, levels: u32) -> Result<BusDescription, DescFault>
     ensures found { Gives (λ b. b) result (bus levels path.now (view value.now)) }
     ensures levels { IfOk result (λ b. bus_levels b ≤ levels) }
-    ensures fields { IfOk result (λ b. bus_fields b ≡ true) }
+    ensures fields { IfOk result (λ b. bus_fields is_32 b ≡ true) }
 {
     if levels == 0 {
         object(alloc, path, value)?;
@@ -585,7 +558,7 @@ fn bus_of(
 ) -> Result<BusDescription, DescFault>
     ensures found { Gives (λ b. b) result (bus_of (item (bus levels)) path.now (view value.now)) }
     ensures levels { IfOk result (λ b. bus_levels b ≤ levels + 1) }
-    ensures fields { IfOk result (λ b. bus_fields b ≡ true) }
+    ensures fields { IfOk result (λ b. bus_fields is_32 b ≡ true) }
 {
     let members = object_of(alloc, path, value, &["product", "last", "sdb", "items"])?;
     let product = product_at(alloc, path, members, "product")?;
@@ -611,13 +584,13 @@ fn bus_at(
 ) -> Result<BusDescription, DescFault>
     ensures found { Gives (λ b. b) result (required (bus levels) path.now key.now (members_view members.now.entries)) }
     ensures levels { IfOk result (λ b. bus_levels b ≤ levels) }
-    ensures fields { IfOk result (λ b. bus_fields b ≡ true) }
+    ensures fields { IfOk result (λ b. bus_fields is_32 b ≡ true) }
 {
     match find(members, key) {
         None => Err(DescFault::Missing(path.key(alloc, key)?)),
         Some(value) => {
-            let place = path.key(alloc, key)?;
-            bus(alloc, &place, value, levels)
+            let inner = path.key(alloc, key)?;
+            bus(alloc, &inner, value, levels)
         }
     }
 }
@@ -631,7 +604,7 @@ pub fn root(alloc: Global, path: &Path, value: &Value) -> Result<Description, De
     ensures masters_most { IfOk result (λ d. d.masters ≤ 16) }
     ensures masters_least { IfOk result (λ d. 1 ≤ d.masters) }
     ensures levels { IfOk result (λ d. bus_levels d.bus ≤ 4) }
-    ensures fields { IfOk result (λ d. bus_fields d.bus ≡ true) }
+    ensures fields { IfOk result (λ d. bus_fields is_32 d.bus ≡ true) }
 {
     let members = object_of(
         alloc,

@@ -1,11 +1,13 @@
 //! How much a description has in all its buses together.
 ghost use Rattle.std.specs.Prelude.{◌≡◌, ◌≤◌, map, IfOk};
 ghost use Rattle.soc_desc.specs.Checks.{Gives};
-ghost use Rattle.soc_desc.specs.Totals.{plus, capped, item_totals, bus_totals, within, sum_of};
+ghost use Rattle.soc_desc.specs.Totals.{of, plus, capped, item_totals, bus_totals, ram_in, within, sum_of};
+ghost use Rattle.soc_desc.specs.View.{made};
 
 use crate::description::{BusDescription, ItemDescription};
 use crate::fault::DescFault;
 use crate::path::Path;
+use crate::view::{ItemView, MakeView, on_bus};
 use std::alloc::Global;
 
 /// Devices, records of SDB tables, and octets of RAM.
@@ -14,6 +16,16 @@ pub struct Totals {
     pub devices: u64,
     pub records: u64,
     pub ram: u64,
+}
+
+fn of(devices: u64, records: u64, ram: u64) -> Totals
+    ensures { result ≡ of devices records ram }
+{
+    Totals {
+        devices,
+        records,
+        ram,
+    }
 }
 
 fn plus(a: Totals, b: Totals) -> Totals
@@ -30,25 +42,19 @@ fn plus(a: Totals, b: Totals) -> Totals
 fn bus_totals(bus: &BusDescription) -> Totals
     ensures { result ≡ capped (bus_totals bus.now) }
 {
-    plus(
-        Totals {
-            devices: 0,
-            records: 1,
-            ram: 0,
-        },
-        items_totals(bus.items.as_slice()),
-    )
+    let own = Totals {
+        devices: 0,
+        records: 1,
+        ram: 0,
+    };
+    plus(own, items_totals(bus.items.as_slice()))
 }
 
 #[cycle(totals)]
 fn items_totals(items: &[ItemDescription]) -> Totals
     ensures { result ≡ capped (sum_of (map item_totals items.now)) }
 {
-    let mut sum = Totals {
-        devices: 0,
-        records: 0,
-        ram: 0,
-    };
+    let mut sum = of(0, 0, 0);
     for item in items {
         sum = plus(sum, item_totals(item));
     }
@@ -59,40 +65,22 @@ fn items_totals(items: &[ItemDescription]) -> Totals
 fn item_totals(item: &ItemDescription) -> Totals
     ensures { result ≡ capped (item_totals item.now) }
 {
-    match item {
-        ItemDescription::Ram { size, .. } => Totals {
-            devices: 1,
-            records: 1,
-            ram: u64::from(*size),
-        },
-        ItemDescription::Regs { .. } => Totals {
-            devices: 1,
-            records: 1,
-            ram: 0,
-        },
-        ItemDescription::Fifo { .. } => Totals {
-            devices: 1,
-            records: 1,
-            ram: 0,
-        },
-        ItemDescription::Bridge { bus, .. } => plus(
-            Totals {
-                devices: 0,
-                records: 1,
-                ram: 0,
-            },
-            bus_totals(bus),
-        ),
-        ItemDescription::Integration { .. } => Totals {
-            devices: 0,
-            records: 1,
-            ram: 0,
-        },
-        ItemDescription::Empty => Totals {
-            devices: 0,
-            records: 1,
-            ram: 0,
-        },
+    match on_bus(item) {
+        ItemView::Device(device) => of(1, 1, ram_in(device.make)),
+        ItemView::Bridge { bus, .. } => plus(of(0, 1, 0), bus_totals(bus)),
+        ItemView::Note { .. } => of(0, 1, 0),
+        ItemView::Empty => of(0, 1, 0),
+    }
+}
+
+/// The octets of RAM that a device has.
+fn ram_in(make: MakeView) -> u64
+    ensures { result ≡ ram_in (made make.entry) }
+{
+    match make {
+        MakeView::Ram(size) => u64::from(size),
+        MakeView::Regs(_) => 0,
+        MakeView::Fifo(_) => 0,
     }
 }
 

@@ -1,4 +1,12 @@
-//! Devices of a Wishbone bus of 32 data bits: RAM, ROM, registers and a FIFO, by the device function.
+//! Devices on a Wishbone bus of 32 data bits: RAM, ROM, registers, and a FIFO whose words are kept in `circular_buffer`.
+//!
+//! An operation on a device makes of what it holds exactly what the device function says, and has its answer.
+//!
+//! - `device`: a device of any kind, and an operation on it
+//! - `memory`: RAM and ROM
+//! - `registers`: registers
+//! - `fifo`: the FIFO
+//! - `lanes`: the selected lanes of a word
 #![tactic(auto)]
 
 mod device;

@@ -1,6 +1,7 @@
 use Rattle.std.proofs.Common.{◌++◌, map, rules, sym, subst}
 use Rattle.soc_desc.specs.declared.description.ItemDescription.{the_lemmas}
 use Rattle.sdb_build.specs.Tables.{item_tables, images_behind, bus_images}
+use Rattle.soc_desc.specs.Accepted.{is_32_or_64}
 use Rattle.sdb_build.specs.Sound.{AreSoundItems}
 use Rattle.sdb_build.proofs.SoundLemmas.{items_sound}
 use Rattle.sdb_build.proofs.TableLemmas.{on_ok, images_added}
@@ -8,7 +9,7 @@ use Rattle.sdb_build.proofs.image.+images.Goals as goal
 
 pub push_bus-push_behind-requires : goal.push_bus-push_behind-requires
 push_bus-push_behind-requires t c =
-    let sound : AreSoundItems c.args.base c.as_slice.result.now = subst (λ is. AreSoundItems c.args.base is) (sym c.as_slice.ensures) (items_sound c.args.bus.now c.requires.sound c.args.base c.requires.inside) in
+    let sound : AreSoundItems is_32_or_64 c.args.base c.as_slice.result.now = subst (λ is. AreSoundItems is_32_or_64 c.args.base is) (sym c.as_slice.ensures) (items_sound is_32_or_64 c.args.bus.now c.requires.sound c.args.base c.requires.inside) in
     (rw c.as_slice.ensures (search (rules, the_lemmas)), sound)
 
 pub push_bus-returns : goal.push_bus-returns

@@ -1,5 +1,5 @@
 use Rattle.std.proofs.Common.{◌≡◌, ◌≤◌, ◌+◌, ◌*◌, true, map, length, drop}
-use Rattle.soc_desc.specs.Accepted.{item_fields, all_of, item_levels, greatest}
+use Rattle.soc_desc.specs.Accepted.{is_32, item_fields, all_of, item_levels, greatest}
 use Rattle.serde_json.specs.View.{items_view}
 use Rattle.soc_desc.specs.Checks.{each_from}
 use Rattle.soc_desc.specs.Shape.{item, bus}
@@ -29,7 +29,7 @@ decreases-bus_of l = 8 * l.levels + 6
 
 abbrev pub invariant-items-loop-i : goal.invariant-items-loop-i
 invariant-items-loop-i l = record {
-  fields : all_of (map item_fields l.items.items) ≡ true;
+  fields : all_of (map (item_fields is_32) l.items.items) ≡ true;
   levels : greatest (map item_levels l.items.items) ≤ l.fn.levels;
   count : length l.items.items ≡ l.i;
   found : with_front l.items.items (each_from (item (bus l.fn.levels)) l.fn.path l.i (items_view (drop l.i l.fn.values.items))) ≡ each_from (item (bus l.fn.levels)) l.fn.path 0 (items_view l.fn.values.items);
