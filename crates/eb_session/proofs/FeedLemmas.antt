@@ -29,7 +29,7 @@ use Rattle.eb_session.specs.Operations.{record_ops, ends_cycle}
 use Rattle.eb_session.specs.Cycles.{item_ops, item_ends}
 use Rattle.eb_session.specs.Replies.{sets_of, item_reply, record_reply}
 use Rattle.eb_session.specs.Keeping.{SessionState, Waits, FedItem, HasAsking, Answers, FeedsSession, Stays, MalformedExactly, Told, ItemRan, ItemUnrun, RecordRan, is_item}
-use Rattle.eb_session.proofs.Legal.{narrow}
+use Rattle.eb_session.proofs.WidthLemmas.{narrow}
 
 if_none : {A : Type 0} (P : Type 0) (Q : A → Type 0) (o : Option A) → o ≡ None → P → MatchOption o P Q
 if_none P Q o e p = subst (λ q. MatchOption q P Q) (sym e) p
