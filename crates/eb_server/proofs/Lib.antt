@@ -1,4 +1,4 @@
-pub mod Running
-pub mod Reaching
+pub mod PieceLemmas
+pub mod ServingLemmas
 pub mod HistoryLemmas
 pub mod EndingLemmas

@@ -1,9 +1,9 @@
 mod Examples
-pub mod Fitting
-pub mod Space
-pub mod Going
-pub mod Asked
-pub mod Legal
-pub mod Feeding
-pub mod Short
-pub mod Whole
+pub mod ListLemmas
+pub mod ConfigurationLemmas
+pub mod CourseLemmas
+pub mod ReplyLemmas
+pub mod WidthLemmas
+pub mod FeedLemmas
+pub mod ShortLemmas
+pub mod EndLemmas

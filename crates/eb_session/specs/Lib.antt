@@ -3,5 +3,6 @@ pub mod Cycles
 pub mod Configuration
 pub mod Replies
 pub mod Keeping
+pub mod Steps
 pub mod Course
 pub mod Inside

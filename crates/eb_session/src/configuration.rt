@@ -62,7 +62,7 @@ fn failed(answer: Answer) -> u64
 }
 
 /// The error register after the first answers of the master's last record.
-#[tactic(auto, using(crate::proofs::Fitting::register_more))]
+#[tactic(auto, using(crate::proofs::ListLemmas::register_more))]
 pub fn shifted<M: Master>(master: &M, count: usize, errors: u64) -> u64
     requires count { count ≤ length (M.answered master.now) }
     ensures value { result ≡ register errors (take count (M.answered master.now)) }

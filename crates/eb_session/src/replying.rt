@@ -59,7 +59,7 @@ fn read<M: Master>(slave: Slave, view: &RecordView<'_>, master: &M, errors: u64,
 }
 
 // Appends the words that the record read.
-#[tactic(auto, using(crate::proofs::Fitting::one_more_word))]
+#[tactic(auto, using(crate::proofs::ListLemmas::one_more_word))]
 fn put_words<M: Master>(
     slave: Slave,
     view: &RecordView<'_>,

@@ -1,6 +1,6 @@
 use Rattle.std.proofs.Common.{ℕ, List, ◌-◌, ◌∙◌, ap}
 use Rattle.eb_base.specs.Field.{octets_of, number_at}
-use Rattle.eb_session.proofs.Space.{in_first, in_second}
+use Rattle.eb_session.proofs.ConfigurationLemmas.{in_first, in_second}
 use Rattle.eb_session.proofs.configuration.octets_at.Goals as goal
 
 pub returns-then-at-lt8 : goal.returns-then-at-lt8

@@ -1,5 +1,5 @@
-use Rattle.eb_session.proofs.Whole.{begins, fed_goes, runs_all, finish_ends, fed_ends}
-use Rattle.eb_session.proofs.Short.{is_short}
+use Rattle.eb_session.proofs.EndLemmas.{begins, fed_goes, runs_all, finish_ends, fed_ends}
+use Rattle.eb_session.proofs.ShortLemmas.{is_short}
 use Rattle.eb_session.proofs.course.whole_runs.Goals as goal
 
 pub returns-clause-begins : goal.returns-clause-begins

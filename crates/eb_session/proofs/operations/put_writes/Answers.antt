@@ -1,7 +1,7 @@
 use Rattle.std.proofs.Common.{sym, subst, arith}
 use Rattle.wb_signals.specs.Cycles.{AllFitBus}
 use Rattle.eb_session.specs.Operations.{write_at}
-use Rattle.eb_session.proofs.Fitting.{fit_more, pushed}
+use Rattle.eb_session.proofs.ListLemmas.{fit_more, pushed}
 use Rattle.eb_session.proofs.operations.put_writes.Goals as goal
 
 pub loop-i-preserved : goal.loop-i-preserved

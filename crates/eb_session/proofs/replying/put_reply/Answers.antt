@@ -5,7 +5,7 @@ use Rattle.eb_codec.specs.declared.item.RecordHead.{RecordHead}
 use Rattle.eb_codec.specs.Form.{zeroed, field}
 use Rattle.eb_session.specs.Operations.{upto}
 use Rattle.eb_session.specs.Replies.{read_word, record_reply}
-use Rattle.eb_session.proofs.Asked.{words_reply}
+use Rattle.eb_session.proofs.ReplyLemmas.{words_reply}
 use Rattle.eb_session.proofs.replying.put_reply.Goals as goal
 
 pub returns-clause-items : goal.returns-clause-items

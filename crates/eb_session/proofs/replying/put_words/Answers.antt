@@ -3,7 +3,7 @@ use Rattle.eb_codec.specs.declared.item.Header.{Header}
 use Rattle.eb_codec.specs.Sizes.{field_octets}
 use Rattle.eb_codec.specs.Form.{zeroed, field}
 use Rattle.eb_session.specs.Replies.{read_word}
-use Rattle.eb_session.proofs.Fitting.{one_more_word}
+use Rattle.eb_session.proofs.ListLemmas.{one_more_word}
 use Rattle.eb_session.proofs.replying.put_words.Goals as goal
 
 pub loop-i-preserved : goal.loop-i-preserved

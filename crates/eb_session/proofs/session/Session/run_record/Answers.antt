@@ -11,8 +11,8 @@ use Rattle.eb_session.specs.Replies.{record_reply}
 use Rattle.eb_session.specs.Configuration.{register}
 use Rattle.eb_session.specs.Inside.{state_in}
 use Rattle.eb_session.specs.Keeping.{SessionState}
-use Rattle.eb_session.proofs.Asked.{enough, taken, reply_same}
-use Rattle.eb_session.proofs.Feeding.{record_ran}
+use Rattle.eb_session.proofs.ReplyLemmas.{enough, taken, reply_same}
+use Rattle.eb_session.proofs.FeedLemmas.{record_ran}
 use Rattle.eb_session.proofs.session.Session.run_record.Goals as goal
 
 pub put_reply-requires-clause-answers : goal.put_reply-requires-clause-answers

@@ -28,8 +28,9 @@ use Rattle.eb_session.specs.Configuration.{register}
 use Rattle.eb_session.specs.Operations.{record_ops, ends_cycle}
 use Rattle.eb_session.specs.Cycles.{item_ops, item_ends}
 use Rattle.eb_session.specs.Replies.{sets_of, item_reply, record_reply}
-use Rattle.eb_session.specs.Keeping.{SessionState, Waits, FedItem, HasAsking, Answers, FeedsSession, Stays, MalformedExactly, Told, ItemRan, ItemUnrun, RecordRan, is_item}
-use Rattle.eb_session.proofs.Legal.{narrow}
+use Rattle.eb_session.specs.Keeping.{SessionState, Waits, FedItem, HasAsking, Answers, FeedsSession, Stays, MalformedExactly}
+use Rattle.eb_session.specs.Steps.{WasGiven, ItemRan, ItemUnrun, RecordRan, is_item}
+use Rattle.eb_session.proofs.WidthLemmas.{narrow}
 
 if_none : {A : Type 0} (P : Type 0) (Q : A → Type 0) (o : Option A) → o ≡ None → P → MatchOption o P Q
 if_none P Q o e p = subst (λ q. MatchOption q P Q) (sym e) p
@@ -71,11 +72,11 @@ gives_narrow bus old new o (item.Probe q) e n g = subst (IsNarrow bus) (sym (ap 
 gives_narrow bus old new o (item.Header h) e n g = subst (IsNarrow bus) (sym (ap (λ (p : DecoderState). p.header) g.1)) (narrow bus old.sets old.header h o e g.0)
 gives_narrow bus old new o (item.Record d) e n g = subst (IsNarrow bus) (sym (ap (λ (p : DecoderState). p.header) g.3)) n
 
-probe_fits : (old : DecoderState) (header : Option Header) (q : Probe) (o : List ℕ) → Spells old.sets header (Probed q) o → Told (item.Probe q) old
+probe_fits : (old : DecoderState) (header : Option Header) (q : Probe) (o : List ℕ) → Spells old.sets header (Probed q) o → WasGiven (item.Probe q) old
 probe_fits old None q o s = s.form.0
 probe_fits old (Some h) q o s = elim s.form [ ]
 
-pub gives_told : (old new : DecoderState) (o : List ℕ) (i : Item) → Gives old o i new → Told i new
+pub gives_told : (old new : DecoderState) (o : List ℕ) (i : Item) → Gives old o i new → WasGiven i new
 gives_told old new o item.NotYet g = tt
 gives_told old new o (item.Probe q) g = probe_fits old old.header q o g.0
 gives_told old new o (item.Header h) g = tt

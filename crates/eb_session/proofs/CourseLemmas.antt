@@ -22,7 +22,7 @@ use Rattle.eb_session.specs.Replies.{sets_of, item_reply, replies_from, replies}
 use Rattle.eb_session.specs.Configuration.{register}
 use Rattle.eb_session.specs.Keeping.{SessionState, Ran}
 use Rattle.eb_session.specs.Course.{SoFar, gone_on, answers_in, IsOn}
-use Rattle.eb_session.proofs.Fitting.{register-append, All-more}
+use Rattle.eb_session.proofs.ListLemmas.{register-append, All-more}
 
 pub cycles_from-more : (bus : Width) (header : Option Header) (c : Cycles) (xs : List StreamItem) (x : StreamItem) → cycles_from bus header c (xs ++ x ∷ []) ≡ cycles_more (cycles_from bus header c xs) (item_ops bus (header_after_all header xs) x) (item_ends x)
 cycles_from-more bus header c [] x = refl

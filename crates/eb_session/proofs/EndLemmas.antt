@@ -24,8 +24,8 @@ use Rattle.eb_session.specs.Configuration.{register}
 use Rattle.eb_session.specs.Replies.{sets_of, replies}
 use Rattle.eb_session.specs.Keeping.{SessionState, Waits, Closed, EndsFor, HasAsking, Answers, FedItem, Stays, finished}
 use Rattle.eb_session.specs.Course.{SoFar, gone_on, answers_in, IsOn, Goes, EndsBy, HasEnded, Begins, FedGoes, RunsAll, FinishEnds, FedEnds}
-use Rattle.eb_session.proofs.Fitting.{All-more}
-use Rattle.eb_session.proofs.Going.{goes_on, given-append, none_pends}
+use Rattle.eb_session.proofs.ListLemmas.{All-more}
+use Rattle.eb_session.proofs.CourseLemmas.{goes_on, given-append, none_pends}
 
 pub begins : Begins
 begins m s now none = record {

@@ -19,7 +19,7 @@ use Rattle.eb_session.specs.Operations.{upto, write_at, read_at, bus_writes, bus
 use Rattle.eb_session.specs.declared.slave.Slave.{Slave}
 use Rattle.eb_session.specs.Replies.{read_word, record_reply, answering, reply_flags}
 use Rattle.eb_session.specs.Operations.{answered_to}
-use Rattle.eb_session.proofs.Fitting.{length-upto}
+use Rattle.eb_session.proofs.ListLemmas.{length-upto}
 
 pub length-record_ops : (bus : Width) (h : Header) (r : Record) → length (record_ops bus h r) ≡ bus_writes r + bus_reads r
 length-record_ops bus h r =

@@ -24,7 +24,7 @@ use Rattle.eb_session.specs.Replies.{read_word, answering, record_reply}
 use Rattle.eb_session.specs.Configuration.{register}
 use Rattle.eb_session.specs.Keeping.{SessionState, FedItem, Answers, FeedsSession, Stays}
 use Rattle.eb_session.specs.Course.{IsShort}
-use Rattle.eb_session.proofs.Fitting.{length-upto}
+use Rattle.eb_session.proofs.ListLemmas.{length-upto}
 
 -- nothing, or this
 at_most : (b : Bool) (l : List ℕ) (n : ℕ) → length l ≤ n → length (if b then [] else l) ≤ n
