@@ -120,15 +120,8 @@ pub fn put_probe(slave: Slave, probe: Probe, reply: &mut Vec<u8>)
     ensures len { vec_len reply.new ≡ vec_len reply.old + 8 }
     ensures room { vec_capacity reply.old ≤ vec_capacity reply.new }
 {
-    put(
-        reply,
-        &[
-            MAGIC[0],
-            MAGIC[1],
-            VERSION + NR + PR,
-            0xf0 + (2 * slave.bus.bit() - 1),
-        ],
-    );
+    let sets = 0xf0 + (2 * slave.bus.bit() - 1);
+    put(reply, &[MAGIC[0], MAGIC[1], VERSION + NR + PR, sets]);
     put(reply, &probe.id.to_be_bytes());
 }
 
@@ -142,14 +135,7 @@ pub fn put_header(header: Header, reply: &mut Vec<u8>)
     if header.no_reply {
         return;
     }
-    put(
-        reply,
-        &[
-            MAGIC[0],
-            MAGIC[1],
-            VERSION + NR,
-            16 * header.address.bit() + header.port.bit(),
-        ],
-    );
+    let widths = 16 * header.address.bit() + header.port.bit();
+    put(reply, &[MAGIC[0], MAGIC[1], VERSION + NR, widths]);
     put_zeros(reply, unit_len(header) - 4);
 }
