@@ -14,8 +14,7 @@ use Rattle.eb_codec.specs.Stream.{StreamItem, Probed, Headed, Recorded, Spells, 
 use Rattle.eb_codec.specs.declared.item.Record.{Record}
 use Rattle.eb_codec.specs.declared.item.RecordHead.{RecordHead}
 use Rattle.eb_codec.specs.Rules.{broken}
-use Rattle.eb_codec.specs.Decoding.{DecoderState, told, Gives, TakesAll, Takes, Stands, Refuses, Feeds, Shows, after_item, shown_of}
-use Rattle.eb_codec.specs.OneCall.{GivesSpelled, NotYetExactly, RefusesExactly}
+use Rattle.eb_codec.specs.Decoding.{DecoderState, told, Gives, TakesAll, Takes, Stands, Refuses, Feeds, Shows, after_item, shown_of, GivesSpelled, NotYetExactly, RefusesExactly}
 use Rattle.eb_codec.proofs.ItemLemmas.{one_spelling}
 use Rattle.eb_codec.proofs.RoomLemmas.{take-append-ge}
 use Rattle.eb_codec.proofs.StreamLemmas.{no_whole}

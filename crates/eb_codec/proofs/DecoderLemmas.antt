@@ -13,8 +13,7 @@ use Rattle.eb_codec.specs.Rules.{has}
 use Rattle.eb_codec.specs.Stream.{HaveWidths, StreamItem, Probed, Headed, Recorded, BreaksNone, Spells, IsPartial}
 use Rattle.eb_codec.specs.Reading.{size, item_in, record_of, probe_of, header_of}
 use Rattle.eb_codec.specs.Decoding.{DecoderState, told, Gives, TakesAll, Takes, Refuses}
-use Rattle.eb_codec.specs.Filling.{IsFilled, IsBroken}
-use Rattle.eb_codec.specs.Keeping.{tells_record, kept_octets, header_told}
+use Rattle.eb_codec.specs.Filling.{IsFilled, IsBroken, tells_record, kept_octets, header_told}
 use Rattle.eb_codec.specs.Inside.{pending_in, state_of, Holds}
 use Rattle.eb_codec.proofs.FieldLemmas.{IsBytes-take}
 use Rattle.eb_codec.proofs.ItemLemmas.{size-ge, spells_item_in}

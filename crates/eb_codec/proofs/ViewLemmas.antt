@@ -8,8 +8,7 @@ use Rattle.eb_codec.specs.declared.item.Header.{Header}
 use Rattle.eb_codec.specs.Stream.{BreaksNone, Spells, Recorded}
 use Rattle.eb_codec.specs.Sizes.{unit_octets}
 use Rattle.eb_codec.specs.Form.{FitsRecord, KeepsRules}
-use Rattle.eb_codec.specs.Reading.{size, item_in, base_in, list_in, part_octets, record_head_of, record_of}
-use Rattle.eb_codec.specs.View.{RecordBehind, IsRecord}
+use Rattle.eb_codec.specs.Reading.{size, item_in, base_in, list_in, part_octets, record_head_of, record_of, RecordBehind, IsRecord}
 use Rattle.eb_codec.proofs.RecordLemmas.{four-unit}
 use Rattle.eb_codec.proofs.ItemLemmas.{spells_item_in, form_read}
 use Rattle.eb_codec.proofs.KeptLemmas.{kept_record}

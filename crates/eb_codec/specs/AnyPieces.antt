@@ -31,9 +31,7 @@ all_taken (c ∷ calls) = taken_by c.0 c.1 ++ all_taken calls
 -- the item that a step tells, if any
 abbrev pub item_told : Item → List Item
 item_told item.NotYet = []
-item_told (item.Probe p) = item.Probe p ∷ []
-item_told (item.Header h) = item.Header h ∷ []
-item_told (item.Record r) = item.Record r ∷ []
+item_told i = i ∷ []
 
 -- the items that calls told
 abbrev pub items_told : List Call → List Item

@@ -1,8 +1,10 @@
--- How a decoder's room is filled.
-use Rattle.std.specs.Prelude.{◌≡◌, ℕ, ◌+◌, ◌-◌, ◌<◌, ◌≤◌, List, ◌++◌, length, take, Option, Some}
+-- How a decoder's room is filled, and what is kept of an item that ended.
+use Rattle.std.specs.Prelude.{◌≡◌, ℕ, ◌+◌, ◌-◌, ◌<◌, ◌≤◌, Bool, true, false, List, ◌++◌, length, take, Option, Some}
 use Rattle.eb_base.specs.declared.width.Widths.{Widths}
 use Rattle.eb_codec.specs.declared.item.Header.{Header}
 use Rattle.eb_codec.specs.declared.item.Why.{Why}
+use Rattle.eb_codec.specs.declared.event.Item.{Item}
+use Rattle.eb_codec.specs.declared.event.Item.TheVariants as item
 use Rattle.eb_codec.specs.Rules.{broken}
 use Rattle.eb_codec.specs.Stream.{BreaksNone}
 
@@ -18,3 +20,18 @@ pub record IsBroken (sets : Widths) (header : Option Header) (octets : List ℕ)
   pub inside : p < length octets
   pub none : BreaksNone sets header (take p octets)
   pub rule : broken sets header octets p ≡ Some why
+
+-- a record ended
+abbrev pub tells_record : Item → Bool
+tells_record (item.Record r) = true
+tells_record _ = false
+
+-- how many of the item's octets are kept: those of a record, which is shown
+abbrev pub kept_octets : Item → ℕ → ℕ
+kept_octets (item.Record r) n = n
+kept_octets _ n = 0
+
+-- the header that the next item goes by
+abbrev pub header_told : Option Header → Item → Option Header
+header_told header (item.Header h) = Some h
+header_told header _ = header

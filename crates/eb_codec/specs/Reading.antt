@@ -11,6 +11,7 @@ use Rattle.eb_codec.specs.declared.item.RecordHead.{RecordHead}
 use Rattle.eb_codec.specs.declared.item.Record.{Record}
 use Rattle.eb_codec.specs.Rules.{has}
 use Rattle.eb_codec.specs.Sizes.{field_octets, unit_octets, gap}
+use Rattle.eb_codec.specs.Form.{Fills, record_form, FitsRecord, KeepsRules}
 use Rattle.eb_codec.specs.Stream.{StreamItem, Probed, Headed, Recorded}
 
 -- The width of a bit, 8 bits of a number that is no bit.
@@ -78,3 +79,14 @@ record_of h o =
 unfoldable pub item_in : Option Header → List ℕ → StreamItem
 item_in None o = if has (slice_index o 2) PF then Probed (probe_of o) else Headed (header_of o)
 item_in (Some h) o = Recorded (record_of h o)
+
+-- A record and the header that it stands behind.
+pub record RecordBehind : Type 0 where
+  pub header : Header
+  pub item : Record
+
+-- The octets spell the record that they are read as, and it breaks no rule.
+pub record IsRecord (h : Header) (octets : List ℕ) : Type 0 where
+  pub fits : FitsRecord h (record_of h octets)
+  pub fills : Fills octets (record_form h (record_of h octets))
+  pub rules : KeepsRules h (record_of h octets).head

@@ -31,9 +31,7 @@ abbrev pub HasForm : Option Header → StreamItem → List ℕ → Type 0
 HasForm None (Probed p) octets = FitsProbe p × Fills octets (probe_form p)
 HasForm None (Headed h) octets = Fills octets (header_form h)
 HasForm (Some h) (Recorded r) octets = FitsRecord h r × Fills octets (record_form h r)
-HasForm None (Recorded r) octets = ⊥
-HasForm (Some h) (Probed p) octets = ⊥
-HasForm (Some h) (Headed g) octets = ⊥
+HasForm _ _ octets = ⊥
 
 -- The octets spell the item for a slave with these sets of widths, where this header came before, or none: they have its
 -- form and break no rule.
@@ -43,9 +41,8 @@ pub record Spells (sets : Widths) (header : Option Header) (item : StreamItem) (
 
 -- the header that stands before the next item
 abbrev pub header_after : Option Header → StreamItem → Option Header
-header_after header (Probed p) = header
 header_after header (Headed h) = Some h
-header_after header (Recorded r) = header
+header_after header _ = header
 
 -- the header that stands after these items
 abbrev pub header_after_all : Option Header → List StreamItem → Option Header

@@ -4,8 +4,7 @@ ghost use Rattle.std.specs.Prelude.{◌≡◌, ◌<◌, ◌≤◌, ◌+◌, ◌^
 ghost use Rattle.eb_base.specs.Width.{octets as width_octets};
 ghost use Rattle.eb_codec.specs.Form.{FitsRecord, KeepsRules};
 ghost use Rattle.eb_codec.specs.Sizes.{field_octets, unit_octets};
-ghost use Rattle.eb_codec.specs.Reading.{record_of, base_in, list_in, part_octets};
-ghost use Rattle.eb_codec.specs.View.{IsRecord};
+ghost use Rattle.eb_codec.specs.Reading.{record_of, base_in, list_in, part_octets, IsRecord};
 
 use crate::item::{Header, RecordHead};
 use crate::reading::read_head;
@@ -21,8 +20,7 @@ pub struct RecordView<'a> {
 }
 
 impl<'a> Model for RecordView<'a> {
-    ghost use Rattle.eb_codec.specs.Reading.{record_of};
-    ghost use Rattle.eb_codec.specs.View.{RecordBehind, IsRecord};
+    ghost use Rattle.eb_codec.specs.Reading.{record_of, RecordBehind, IsRecord};
 
     ghost Value = { RecordBehind };
 
