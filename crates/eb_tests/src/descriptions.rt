@@ -102,6 +102,6 @@ fn pushed_path(rt: HostRuntime) -> Result<(), Fail> {
     let alloc = rt.alloc();
     let mut path = Path::of(Vec::from_slice(alloc, b"/bus")?);
     assert!(rt; path.push(b'/').is_ok());
-    assert_eq!(rt; path.as_slice(), b"/bus/");
+    assert_eq!(rt; path.as_slice(), b"/bus/".as_slice());
     Ok(())
 }

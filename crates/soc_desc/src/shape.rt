@@ -2,7 +2,7 @@
 ghost use Rattle.std.specs.Prelude.{◌≡◌, ◌≤◌, ◌+◌, IfOk, true, map, length};
 ghost use Rattle.std.specs.List.{list_all};
 ghost use Rattle.serde_json.specs.View.{view, items_view, members_view};
-ghost use Rattle.soc_desc.specs.Checks.{Gives, required, optional, word, list, each_from, known};
+ghost use Rattle.soc_desc.specs.Checks.{Gives, from_to, required, optional, word, list, each_from, known};
 ghost use Rattle.soc_desc.specs.Shape.{product, name, reg, modes, ports, kinds, interface, ram_item, regs_item, fifo_item, integration_item, bridge_item, item, bus_of, bus, root, keys, device_keys};
 ghost use Rattle.soc_desc.specs.Accepted.{all_of, greatest, is_padded, is_product, is_reg, is_interface, is_32, item_fields, bus_fields, item_levels, bus_levels};
 
@@ -15,40 +15,17 @@ use eb_base::{Mode, Name, Product, Reg, RegList, Width};
 use serde_json::{Map, Value};
 use std::alloc::Global;
 
-const U64: Range = Range {
-    least: 0,
-    most: u64::MAX,
-    step: 1,
-    rest: 0,
-};
-
-const U32: Range = Range {
-    least: 0,
-    most: 0xffff_ffff,
-    step: 1,
-    rest: 0,
-};
-
-const U16: Range = Range {
-    least: 0,
-    most: 0xffff,
-    step: 1,
-    rest: 0,
-};
-
-const U8: Range = Range {
-    least: 0,
-    most: 0xff,
-    step: 1,
-    rest: 0,
-};
-
-const WAIT: Range = Range {
-    least: 0,
-    most: 15,
-    step: 1,
-    rest: 0,
-};
+/// The numbers from one to another.
+fn from_to(least: u64, most: u64) -> Range
+    ensures range { result ≡ from_to least most }
+{
+    Range {
+        least,
+        most,
+        step: 1,
+        rest: 0,
+    }
+}
 
 const ADDRESS: Range = Range {
     least: 0,
@@ -62,34 +39,6 @@ const LAST: Range = Range {
     most: u64::MAX,
     step: 4,
     rest: 3,
-};
-
-const DEPTH: Range = Range {
-    least: 1,
-    most: 1024,
-    step: 1,
-    rest: 0,
-};
-
-const ONE_TO_16: Range = Range {
-    least: 1,
-    most: 16,
-    step: 1,
-    rest: 0,
-};
-
-const VERSION: Range = Range {
-    least: 1,
-    most: 1,
-    step: 1,
-    rest: 0,
-};
-
-const DATA: Range = Range {
-    least: 32,
-    most: 32,
-    step: 1,
-    rest: 0,
 };
 
 const RAM_SIZE: Range = Range {
@@ -182,10 +131,10 @@ fn product(alloc: Global, path: &Path, value: &Value) -> Result<Product, DescFau
         value,
         &["vendor", "device", "version", "date", "name"],
     )?;
-    let vendor = number_at(alloc, path, members, "vendor", U64)?;
-    let device = number_at(alloc, path, members, "device", U32)? as u32;
-    let version = number_at(alloc, path, members, "version", U32)? as u32;
-    let date = number_at(alloc, path, members, "date", U32)? as u32;
+    let vendor = number_at(alloc, path, members, "vendor", from_to(0, u64::MAX))?;
+    let device = number_at(alloc, path, members, "device", from_to(0, 0xffff_ffff))? as u32;
+    let version = number_at(alloc, path, members, "version", from_to(0, 0xffff_ffff))? as u32;
+    let date = number_at(alloc, path, members, "date", from_to(0, 0xffff_ffff))? as u32;
     let name = name_at(alloc, path, members, "name")?;
     Ok(Product {
         vendor,
@@ -221,7 +170,7 @@ fn reg(alloc: Global, path: &Path, value: &Value) -> Result<Reg, DescFault>
 {
     let members = object_of(alloc, path, value, &["mode", "reset"])?;
     let mode = mode_at(alloc, path, members, "mode")?;
-    let reset = number_or(alloc, path, members, "reset", U32, 0)? as u32;
+    let reset = number_or(alloc, path, members, "reset", from_to(0, 0xffff_ffff), 0)? as u32;
     Ok(Reg { mode, reset })
 }
 
@@ -235,10 +184,10 @@ fn interface_at(
     ensures fields { IfOk result (λ a. is_interface a ≡ true) }
 {
     let port = port_or(alloc, path, members, "port", PortWord::Pipelined)?;
-    let wait = number_or(alloc, path, members, "wait", WAIT, 0)? as u8;
-    let class = number_or(alloc, path, members, "abi_class", U16, 0)? as u16;
-    let major = number_or(alloc, path, members, "abi_major", U8, 0)? as u8;
-    let minor = number_or(alloc, path, members, "abi_minor", U8, 0)? as u8;
+    let wait = number_or(alloc, path, members, "wait", from_to(0, 15), 0)? as u8;
+    let class = number_or(alloc, path, members, "abi_class", from_to(0, 0xffff), 0)? as u16;
+    let major = number_or(alloc, path, members, "abi_major", from_to(0, 0xff), 0)? as u8;
+    let minor = number_or(alloc, path, members, "abi_minor", from_to(0, 0xff), 0)? as u8;
     Ok(Interface {
         port,
         wait,
@@ -419,7 +368,7 @@ fn fifo_item(
 {
     let product = product_at(alloc, path, members, "product")?;
     let at = number_at(alloc, path, members, "at", ADDRESS)?;
-    let depth = number_at(alloc, path, members, "depth", DEPTH)? as u32;
+    let depth = number_at(alloc, path, members, "depth", from_to(1, 1024))? as u32;
     let interface = interface_at(alloc, path, members)?;
     Ok(ItemDescription::Fifo {
         product,
@@ -612,10 +561,10 @@ pub fn root(alloc: Global, path: &Path, value: &Value) -> Result<Description, De
         value,
         &["version", "data", "depth", "masters", "bus"],
     )?;
-    number_at(alloc, path, members, "version", VERSION)?;
-    number_at(alloc, path, members, "data", DATA)?;
-    let depth = number_at(alloc, path, members, "depth", ONE_TO_16)? as u8;
-    let masters = number_at(alloc, path, members, "masters", ONE_TO_16)? as u8;
+    number_at(alloc, path, members, "version", from_to(1, 1))?;
+    number_at(alloc, path, members, "data", from_to(32, 32))?;
+    let depth = number_at(alloc, path, members, "depth", from_to(1, 16))? as u8;
+    let masters = number_at(alloc, path, members, "masters", from_to(1, 16))? as u8;
     let bus = bus_at(alloc, path, members, "bus", 4)?;
     Ok(Description {
         depth,
