@@ -1,4 +1,3 @@
-pub mod Endings
 pub mod Serving
 pub mod Piece
 pub mod Laws

@@ -28,8 +28,7 @@ use Rattle.eb_session.specs.Configuration.{register}
 use Rattle.eb_session.specs.Operations.{record_ops, ends_cycle}
 use Rattle.eb_session.specs.Cycles.{item_ops, item_ends}
 use Rattle.eb_session.specs.Replies.{sets_of, item_reply, record_reply}
-use Rattle.eb_session.specs.Keeping.{SessionState, Waits, FedItem, HasAsking, Answers, FeedsSession, Stays, MalformedExactly}
-use Rattle.eb_session.specs.Steps.{WasGiven, ItemRan, ItemUnrun, RecordRan, is_item}
+use Rattle.eb_session.specs.Keeping.{SessionState, Waits, FedItem, HasAsking, Answers, FeedsSession, Stays, MalformedExactly, WasGiven, ItemRan, ItemUnrun, RecordRan, is_item}
 use Rattle.eb_session.proofs.WidthLemmas.{narrow}
 
 if_none : {A : Type 0} (P : Type 0) (Q : A → Type 0) (o : Option A) → o ≡ None → P → MatchOption o P Q

@@ -6,13 +6,12 @@ use Rattle.eb_base.specs.Width.{octets}
 use Rattle.eb_base.specs.Field.{octets_of, number_at}
 use Rattle.eb_base.specs.Lanes.{selected, port_address}
 use Rattle.wb_signals.specs.declared.answer.Answer.{Answer}
-use Rattle.wb_signals.specs.declared.answer.Answer.TheVariants.{Ack, Err, Rty}
+use Rattle.wb_signals.specs.declared.answer.Answer.TheVariants.{Ack}
 
 -- the bit that an operation shifts in: 1 where it failed
 abbrev pub failed : Answer → ℕ
 failed (Ack word) = 0
-failed Err = 1
-failed Rty = 1
+failed answer = 1
 
 -- The error shift register after more operations: each shifts it left by one bit, the newest is the lowest bit, and 64 are
 -- kept.

@@ -31,8 +31,7 @@ item_ops bus header (Headed h) = []
 -- whether an item ends a cycle
 abbrev pub item_ends : StreamItem → Bool
 item_ends (Recorded r) = ends_cycle r
-item_ends (Probed p) = false
-item_ends (Headed h) = false
+item_ends x = false
 
 -- What items that follow make of the cycles so far.
 abbrev pub cycles_from : Width → Option Header → Cycles → List StreamItem → Cycles

@@ -1,8 +1,11 @@
 -- What a session keeps, and what one call makes of it.
-use Rattle.std.specs.Prelude.{◌≡◌, ◌↔◌, ℕ, ◌+◌, ◌<◌, ◌≤◌, Bool, true, false, List, [], ◌∷◌, ◌++◌, length, take, Option, Some, None, Result, Ok, Err, MatchOption}
+use Rattle.std.specs.Prelude.{◌≡◌, ◌↔◌, ℕ, ◌+◌, ◌<◌, ◌≤◌, Bool, true, false, List, [], ◌∷◌, ◌++◌, length, take, Option, Some, None, Result, Ok, Err, MatchOption, IsSome}
 use Rattle.eb_codec.specs.declared.item.Record.{Record}
 use Rattle.eb_codec.specs.declared.item.Why.{Why}
-use Rattle.eb_codec.specs.Decoding.{DecoderState, fresh, after_item, Refuses}
+use Rattle.eb_codec.specs.declared.event.Item.{Item}
+use Rattle.eb_codec.specs.declared.event.Item.TheVariants as item
+use Rattle.eb_codec.specs.Form.{FitsProbe}
+use Rattle.eb_codec.specs.Decoding.{DecoderState, fresh, after_item, record_in, Refuses}
 use Rattle.eb_codec.specs.Stream.{StreamItem, Recorded, Spells, IsPartial, IsBadOctet}
 use Rattle.wb_signals.specs.Cycles.{MasterCycles, Asks, paired, pairs_added, cycle_ended}
 use Rattle.wb_signals.specs.declared.answer.Answer.{Answer}
@@ -12,7 +15,7 @@ use Rattle.eb_session.specs.declared.session.End.TheVariants as end
 use Rattle.eb_session.specs.declared.session.Fed.{Fed}
 use Rattle.eb_session.specs.Cycles.{item_ops, item_ends}
 use Rattle.eb_session.specs.Configuration.{register}
-use Rattle.eb_session.specs.Replies.{sets_of, item_reply}
+use Rattle.eb_session.specs.Replies.{sets_of, item_reply, probe_reply, header_reply}
 
 -- A session: its slave, how far its decoder is in the stream, the error register, the reply to the item that the last call
 -- ended, and how it ended. Whether a cycle is open its master tells.
@@ -59,8 +62,7 @@ HasAsking old octets before = (r : Record) × (front rest : List ℕ) × (octets
 abbrev pub EndsFor : SessionState → List ℕ → MasterCycles → End → Type 0
 EndsFor old piece before (end.Malformed place why) = (new : DecoderState) × Refuses old.progress piece (record { place = place; why = why }) new
 EndsFor old piece before end.NoMemory = HasAsking old (old.progress.pending ++ piece) before
-EndsFor old piece before end.Clean = ⊥
-EndsFor old piece before (end.Truncated n) = ⊥
+EndsFor old piece before e = ⊥
 
 -- What was made of a piece of which so many octets were taken: one item ran, or all were taken and less than one pends.
 abbrev pub FedItem : ℕ → SessionState → List ℕ → SessionState → MasterCycles → MasterCycles → ℕ → Bool → Type 0
@@ -106,3 +108,40 @@ abbrev pub Finishes : ℕ → SessionState → SessionState → MasterCycles →
 Finishes m old new before after answer = MatchOption old.ending
     ((answer ≡ finished old.progress.pending) × Closed m old new before after answer)
     (λ e. (answer ≡ e) × Stays old new before after)
+
+-- ---- the steps of one call, between which the decoder has the item's octets and the item has not run
+
+-- The decoder just gave this: a probe whose id fits its field, or a record, which it shows.
+abbrev pub WasGiven : Item → DecoderState → Type 0
+WasGiven item.NotYet p = Unit {0}
+WasGiven (item.Probe probe) p = FitsProbe probe
+WasGiven (item.Header h) p = Unit {0}
+WasGiven (item.Record head) p = IsSome p.shown
+
+-- The record that the decoder just gave ran, its operations having been given these answers, and is replied to.
+pub record RecordRan (m : ℕ) (old new : SessionState) (before after : MasterCycles) (r : Record) (answers : List Answer) : Type 0 where
+  pub answered : length answers ≡ length (item_ops old.slave.bus old.progress.header (Recorded r))
+  pub added : after ≡ pairs_added m before (paired (item_ops old.slave.bus old.progress.header (Recorded r)) answers) (item_ends (Recorded r))
+  pub session : new ≡ record old { errors = register old.errors answers; reply = item_reply old.slave old.progress.header (Recorded r) answers old.errors }
+
+-- What the decoder just gave ran.
+abbrev pub ItemRan : ℕ → SessionState → SessionState → MasterCycles → MasterCycles → Item → Type 0
+ItemRan m old new before after item.NotYet = (new ≡ old) × (after ≡ before)
+ItemRan m old new before after (item.Probe p) = (new ≡ record old { reply = probe_reply old.slave p }) × (after ≡ before)
+ItemRan m old new before after (item.Header h) = (new ≡ record old { reply = header_reply h }) × (after ≡ before)
+ItemRan m old new before after (item.Record head) = (answers : List Answer) × RecordRan m old new before after (record_in old.progress.shown) answers
+
+-- The master had no memory for the record that the decoder just gave, and nothing ran.
+pub record Unrun (old new : SessionState) (before after : MasterCycles) : Type 0 where
+  pub kept : new ≡ old
+  pub same : after ≡ before
+  pub asked : Asks before.opened (item_ops old.slave.bus old.progress.header (Recorded (record_in old.progress.shown))) (item_ends (Recorded (record_in old.progress.shown)))
+
+abbrev pub ItemUnrun : SessionState → SessionState → MasterCycles → MasterCycles → Item → Type 0
+ItemUnrun old new before after (item.Record head) = Unrun old new before after
+ItemUnrun old new before after i = ⊥
+
+-- whether the decoder gave an item
+abbrev pub is_item : Item → Bool
+is_item item.NotYet = false
+is_item i = true

@@ -3,6 +3,5 @@ pub mod Cycles
 pub mod Configuration
 pub mod Replies
 pub mod Keeping
-pub mod Steps
 pub mod Course
 pub mod Inside

@@ -15,7 +15,7 @@ use Rattle.eb_codec.specs.Sizes.{unit_octets}
 use Rattle.eb_codec.specs.Form.{zeroed, record_form}
 use Rattle.eb_codec.specs.Stream.{StreamItem, Probed, Headed, Recorded, header_after}
 use Rattle.wb_signals.specs.declared.answer.Answer.{Answer}
-use Rattle.wb_signals.specs.declared.answer.Answer.TheVariants.{Ack, Err, Rty}
+use Rattle.wb_signals.specs.declared.answer.Answer.TheVariants.{Ack, Err}
 use Rattle.eb_session.specs.declared.slave.Slave.{Slave}
 use Rattle.eb_session.specs.Operations.{upto, bus_writes}
 use Rattle.eb_session.specs.Cycles.{item_ops}
@@ -28,8 +28,7 @@ sets_of bus = record { addresses = 15; ports = 2 * bit bus - 1 }
 -- The word of an answer, 0 for ERR and RTY.
 abbrev pub answer_word : Width → Width → ℕ → ℕ → Answer → ℕ
 answer_word port bus adr sel (Ack dat) = word_of port bus adr dat sel
-answer_word port bus adr sel Err = 0
-answer_word port bus adr sel Rty = 0
+answer_word port bus adr sel answer = 0
 
 -- Word i of the reply to a record, whose operations were given these answers, `errors` being the register after them. A
 -- read of the configuration space (RCA) is no operation.

@@ -3,7 +3,7 @@ ghost use Rattle.std.specs.Prelude.{◌≡◌, ◌<◌, ◌≤◌, ◌+◌, ◌^
 ghost use Rattle.eb_codec.specs.Decoding.{record_in};
 ghost use Rattle.wb_signals.specs.declared.answer.Answer.{Answer};
 ghost use Rattle.eb_session.specs.Keeping.{new_session, FeedsSession, MalformedExactly, Finishes, Advances};
-ghost use Rattle.eb_session.specs.Steps.{WasGiven, ItemRan, ItemUnrun, RecordRan, Unrun, is_item};
+ghost use Rattle.eb_session.specs.Keeping.{WasGiven, ItemRan, ItemUnrun, RecordRan, Unrun, is_item};
 
 use crate::configuration::shifted;
 use crate::operations::{is_last, put_ops};

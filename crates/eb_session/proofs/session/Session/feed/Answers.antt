@@ -2,8 +2,7 @@ use Rattle.std.proofs.Common.{◌≡◌, ℕ, Bool, List, ◌++◌, length, take
 use Rattle.eb_codec.specs.Decoding.{Takes}
 use Rattle.eb_session.specs.Inside.{state_in}
 use Rattle.eb_session.specs.declared.session.End.TheVariants as end
-use Rattle.eb_session.specs.Keeping.{SessionState, FeedsSession}
-use Rattle.eb_session.specs.Steps.{is_item}
+use Rattle.eb_session.specs.Keeping.{SessionState, FeedsSession, is_item}
 use Rattle.eb_session.proofs.FeedLemmas.{takes, gives_sets, gives_fault, gives_narrow, from_view, item_ran, item_unrun, refuses, refused, malformed_exactly}
 use Rattle.eb_session.proofs.ShortLemmas.{fed_short}
 use Rattle.eb_session.proofs.session.Session.feed.Goals as goal
