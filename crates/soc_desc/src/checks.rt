@@ -102,7 +102,8 @@ pub fn number_at(
     range: Range,
 ) -> Result<u64, DescFault>
     requires step { 0 < range.step }
-    ensures found { Gives (λ n. n) result (required (number range) path.now key.now (members_view members.now.entries)) }
+    ensures found { Gives (λ n. n) result
+        (required (number range) path.now key.now (members_view members.now.entries)) }
     ensures most { IfOk result (λ n. n ≤ range.most) }
     ensures inside { IfOk result (λ n. is_in range n ≡ true) }
 {

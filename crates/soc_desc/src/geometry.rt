@@ -138,7 +138,8 @@ fn bus_placed(alloc: Global, path: &Path, bus: &BusDescription) -> Result<(), De
         (placed_after b.last [] (located path.now b.last b.sdb (map item_place b.items)).spans) }
     ensures sound { let b = out-BusDescription bus.now in
         IfOk result
-        (λ u. are_placed b.last (extents (map item_place b.items) ++ rom_extent b.sdb (length (map item_place b.items)) ∷ []) ≡ true) }
+        (λ u. are_placed b.last (extents (map item_place b.items)
+        ++ rom_extent b.sdb (length (map item_place b.items)) ∷ []) ≡ true) }
 {
     let spans = bus_spans(alloc, path, bus)?;
     spans_placed(alloc, bus.last, &spans)

@@ -204,7 +204,8 @@ fn words_at(
     members: &Map<String, Value>,
     key: &str,
 ) -> Result<RegList, DescFault>
-    ensures found { Gives (λ v. v) result (required (list 1 1024 reg) path.now key.now (members_view members.now.entries)) }
+    ensures found { Gives (λ v. v) result
+        (required (list 1 1024 reg) path.now key.now (members_view members.now.entries)) }
     ensures fields { IfOk result (λ v. list_all is_reg v ≡ true) }
     ensures count { IfOk result (λ v. (1 ≤ length v) × (length v ≤ 1024)) }
 {

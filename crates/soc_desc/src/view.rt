@@ -4,6 +4,7 @@ ghost use Rattle.soc_desc.specs.View.{on_bus, viewed, made, octets_in, interface
 ghost use Rattle.soc_desc.specs.declared.description.ItemDescription.TheViews.{out-ItemDescription};
 
 use crate::description::{BusDescription, ItemDescription, PortWord};
+use crate::view::MakeView::{Fifo, Ram, Regs};
 use eb_base::{Product, RegList};
 
 /// What all devices have: how they are joined to their bus, and the ABI that their SDB records name.
@@ -70,18 +71,18 @@ pub fn octets_in(make: MakeView) -> u128
 /// A device, of which `joined` has the fields of its interface in their order.
 fn device<'d>(
     product: &'d Product,
-    at: u64,
+    at: &u64,
     make: MakeView<'d>,
     joined: (&PortWord, &u8, &u16, &u8, &u8),
 ) -> ItemView<'d>
     ensures device { let j = joined.entry in
         let own = interface j.0.now j.1.now j.2.now j.3.now j.4.now in
-        viewed result ≡ OfDevice (device product.now at (made make.entry) own) }
+        viewed result ≡ OfDevice (device product.now at.now (made make.entry) own) }
 {
     let (port, wait, class, major, minor) = joined;
     ItemView::Device(DeviceView {
         product,
-        at,
+        at: *at,
         make,
         interface: Interface {
             port: *port,
@@ -107,12 +108,7 @@ pub fn on_bus(item: &ItemDescription) -> ItemView<'_>
             class,
             major,
             minor,
-        } => device(
-            product,
-            *at,
-            MakeView::Ram(*size),
-            (port, wait, class, major, minor),
-        ),
+        } => device(product, at, Ram(*size), (port, wait, class, major, minor)),
         ItemDescription::Regs {
             product,
             at,
@@ -122,12 +118,7 @@ pub fn on_bus(item: &ItemDescription) -> ItemView<'_>
             class,
             major,
             minor,
-        } => device(
-            product,
-            *at,
-            MakeView::Regs(words),
-            (port, wait, class, major, minor),
-        ),
+        } => device(product, at, Regs(words), (port, wait, class, major, minor)),
         ItemDescription::Fifo {
             product,
             at,
@@ -137,12 +128,7 @@ pub fn on_bus(item: &ItemDescription) -> ItemView<'_>
             class,
             major,
             minor,
-        } => device(
-            product,
-            *at,
-            MakeView::Fifo(*depth),
-            (port, wait, class, major, minor),
-        ),
+        } => device(product, at, Fifo(*depth), (port, wait, class, major, minor)),
         ItemDescription::Bridge { product, at, bus } => ItemView::Bridge {
             product,
             at: *at,

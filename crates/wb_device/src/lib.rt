@@ -1,4 +1,4 @@
-//! Devices on a Wishbone bus of 32 data bits: RAM, ROM, registers, and a FIFO whose words are kept in `circular_buffer`.
+//! Devices on a Wishbone bus of 32 data bits: RAM, ROM, registers, and a FIFO, whose words `circular_buffer` keeps.
 //!
 //! An operation on a device makes of what it holds exactly what the device function says, and has its answer.
 //!
