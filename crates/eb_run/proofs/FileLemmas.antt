@@ -16,9 +16,8 @@ use Rattle.soc_desc.specs.declared.description.Description.{Description}
 use Rattle.eb_text.specs.declared.fault.Fault.{Fault}
 use Rattle.eb_text.specs.declared.fault.Fault.TheVariants as fault
 use Rattle.eb_run.specs.Run.{Run}
-use Rattle.eb_run.specs.Files.{IsDescribed, ReadFile, ReadsDescription}
-use Rattle.eb_run.specs.Streams.{System, ServedOn, AnswersCapture}
-use Rattle.eb_run.specs.Steps.{ChangesLast, result_of}
+use Rattle.eb_run.specs.Files.{IsDescribed, ReadFile, ReadsDescription, ChangesLast}
+use Rattle.eb_run.specs.Streams.{System, ServedOn, AnswersCapture, result_of}
 
 -- what a fresh file gave since is all that it gave
 given_since : (was : Option (List ℕ)) (octets : List ℕ) → IfSome was (λ given. given ≡ []) → IfSome (append_known was octets) (λ given. given ≡ octets)
@@ -88,6 +87,6 @@ reads_text reading old mid new name octets r opened changes is =
     let read = read_file reading old mid new name opened changes octets.items gathers.2.given in
     let no_fault = gathers.2.faults ∙ (fresh reading old mid new name opened changes).faults in
     elim is [
-      | inl none ↦ inr (inr (inl (none, record { file = changes.now; octets = octets.items; read = read; no_fault = no_fault })))
+      | inl none ↦ inr (inr (inl (none, record { file = changes.now; octets = octets.items; read = read; faults = no_fault })))
       | inr so ↦ inr (inr (inr (octets.items, record { file = changes.now; read = read; to = inl (gathers.1, gathers.0); no_fault = no_fault }, so)))
     ]

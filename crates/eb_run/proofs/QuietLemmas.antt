@@ -8,6 +8,7 @@ use Rattle.std.proofs.lemmas.List.{append_assoc, append_cancel_left, append-nil}
 use Rattle.serde_json.specs.Data.{Data}
 use Rattle.serde_json.specs.Read.{read as read_text}
 use Rattle.eb_base.specs.declared.width.Width.{Width}
+use Rattle.eb_base.specs.declared.width.Width.TheVariants.{W32}
 use Rattle.eb_io.specs.Counts.{Rose}
 use Rattle.eb_io.specs.Reading.{Reading, Gave}
 use Rattle.eb_io.specs.Writing.{Writing}
@@ -29,9 +30,8 @@ use Rattle.eb_text.specs.declared.fault.Fault.{Fault}
 use Rattle.eb_text.specs.declared.fault.Fault.TheVariants as fault
 use Rattle.eb_run.specs.Run.{Run}
 use Rattle.eb_run.specs.Files.{ReadToEnd, ReadsDescription}
-use Rattle.eb_run.specs.Streams.{System, ServedOn, ServedCapture, AnswersCapture, ram_system, described_system}
+use Rattle.eb_run.specs.Streams.{System, ServedOn, ServedCapture, AnswersCapture, ram_system, described_system, result_of}
 use Rattle.eb_run.specs.Commands.{SendsText, MakesText, ComesTo}
-use Rattle.eb_run.specs.Steps.{result_of}
 use Rattle.eb_run.specs.Top.{HoldsOctets, AllHold, IsQuiet, IsRefused, EndsWith, Decides}
 
 -- ---- what a source told
@@ -142,7 +142,7 @@ read_ill : {F : Type 0} (reading : F → Reading) (old new : Outside F) (name : 
     → (f ≡ fault.NoMemory) ⊎ ((octets : List ℕ) × ReadToEnd reading old new name octets × (first : DescFault) × (described octets ≡ Err first) × (f ≡ fault.Description first))
 read_ill reading old new name f no_open no_read (inl (inl (is, failed))) = absurd (no_open failed.rose)
 read_ill reading old new name f no_open no_read (inl (inr (is, same))) = inl cc
-read_ill reading old new name f no_open no_read (inr (inl (is, failed))) = absurd (no_read failed.file failed.read.files failed.rose)
+read_ill reading old new name f no_open no_read (inr (inl (is, failed))) = absurd (no_read failed.file failed.read.files failed.faults)
 read_ill reading old new name f no_open no_read (inr (inr (inl (is, part)))) = inl cc
 read_ill reading old new name f no_open no_read (inr (inr (inr (octets, read, inl (d, found, is))))) = cc
 read_ill reading old new name f no_open no_read (inr (inr (inr (octets, read, inr (first, found, real, is))))) = inr (octets, read, first, found, cc)
@@ -208,11 +208,11 @@ module _ {F : Type 0} (run : Run F) (held : List (List ℕ)) (quiet : IsQuiet ru
         | inr (octets, read, first, found, so) ↦
             let own = one_held run.reading read.file held (are_quiet (read.file ∷ []) read.read.files).0 in
             let refused : described own.0 ≡ Err first = same_described run.reading run.world run.world' name octets own.0 read own.2 ∙ found in
-            inr (subst (λ (l : List (List ℕ)). Decides c l r) (sym own.1) (decides own.0 (record { first = first; refused = refused; answer_is = is ∙ ap Err so })))
+            inr (subst (λ (l : List (List ℕ)). Decides c l r) (sym own.1) (decides own.0 (first, refused, is ∙ ap Err so)))
       ]
 
   by_end : (bus : Width) (octets : List ℕ) (r : Result ⊤ Fault) (e : Ending) → r ≡ result_of e → EndsAs (sets_of bus) octets e ⊎ (e ≡ ending.NoMemory) → (r ≡ Err fault.NoMemory) ⊎ EndsWith bus octets r
-  by_end bus octets r e is (inl so) = inr (record { ending = e; ends = so; answer_is = is })
+  by_end bus octets r e is (inl so) = inr (e, so, is)
   by_end bus octets r e is (inr none) = inl (is ∙ ap result_of none)
 
   answered : (name capture : List ℕ) (between : Outside F) (octets : List ℕ) (d : Description) (r : Result ⊤ Fault)
@@ -269,13 +269,13 @@ module _ {F : Type 0} (run : Run F) (held : List (List ℕ)) (quiet : IsQuiet ru
 -- ---- octets decide one answer
 
 one_end : (bus : Width) (octets : List ℕ) (a b : Result ⊤ Fault) → EndsWith bus octets a → EndsWith bus octets b → a ≡ b
-one_end bus octets a b x y = x.answer_is ∙ ap result_of (only_ending (sets_of bus) octets x.ending y.ending x.ends y.ends) ∙ sym y.answer_is
+one_end bus octets a b x y = x.2 ∙ ap result_of (only_ending (sets_of bus) octets x.0 y.0 x.1 y.1) ∙ sym y.2
 
 one_refusal : (text : List ℕ) (a b : Result ⊤ Fault) → IsRefused text a → IsRefused text b → a ≡ b
 one_refusal text a b x y =
-    let both : ◌≡◌ {A = Found Description} (Err x.first) (Err y.first) = sym x.refused ∙ y.refused in
-    let same : x.first ≡ y.first = cc in
-    x.answer_is ∙ ap (λ (f : DescFault). Err (fault.Description f)) same ∙ sym y.answer_is
+    let both : ◌≡◌ {A = Found Description} (Err x.0) (Err y.0) = sym x.1 ∙ y.1 in
+    let same : x.0 ≡ y.0 = cc in
+    x.2 ∙ ap (λ (f : DescFault). Err (fault.Description f)) same ∙ sym y.2
 
 one_description : (text : List ℕ) (d other : Description) → described text ≡ Ok d → described text ≡ Ok other → d ≡ other
 one_description text d other x y =
@@ -284,11 +284,11 @@ one_description text d other x y =
 
 not_both : (text : List ℕ) (d : Description) (a : Result ⊤ Fault) → described text ≡ Ok d → IsRefused text a → ⊥
 not_both text d a x y =
-    let both : ◌≡◌ {A = Found Description} (Ok d) (Err y.first) = sym x ∙ y.refused in
+    let both : ◌≡◌ {A = Found Description} (Ok d) (Err y.0) = sym x ∙ y.1 in
     cc
 
 pub one_answer : (c : Command) (held : List (List ℕ)) (a b : Result ⊤ Fault) → Decides c held a → Decides c held b → a ≡ b
-one_answer (AnswerRam size capture) (o ∷ []) a b x y = one_end _ o a b x y
+one_answer (AnswerRam size capture) (o ∷ []) a b x y = one_end W32 o a b x y
 one_answer (Answer name capture) (text ∷ []) a b x y = one_refusal text a b x y
 one_answer (Answer name capture) (text ∷ o ∷ []) a b x y =
     let same = one_description text y.0 x.0 y.1 x.1 in

@@ -14,8 +14,7 @@ use Rattle.eb_text.specs.declared.fault.Fault.{Fault}
 use Rattle.eb_text.specs.declared.fault.Fault.TheVariants as fault
 use Rattle.eb_run.specs.Run.{Run}
 use Rattle.eb_run.specs.Files.{NotOpened, ReadsDescription}
-use Rattle.eb_run.specs.Streams.{System, AnswersCapture}
-use Rattle.eb_run.specs.Steps.{result_of}
+use Rattle.eb_run.specs.Streams.{System, AnswersCapture, result_of}
 use Rattle.eb_run.specs.Commands.{SendsText, MakesText, ComesTo}
 use Rattle.eb_run.specs.Top.{WordsComeTo, status_for, Tells, Came, IsQuiet, Decides, RanWords}
 use Rattle.eb_run.proofs.StatusLemmas.{Has, MayCome, Known, known, known_usage}

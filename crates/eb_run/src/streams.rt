@@ -3,7 +3,7 @@ ghost use Rattle.std.specs.Prelude.{◌<◌, length};
 ghost use Rattle.eb_run.specs.Run.{run_of};
 ghost use Rattle.eb_run.specs.Slave.{IsNewSlave, system_of, entries_of};
 ghost use Rattle.eb_run.specs.Streams.{ServedOn, AnswersCapture};
-ghost use Rattle.eb_run.specs.Steps.{ChangesLast};
+ghost use Rattle.eb_run.specs.Files.{ChangesLast};
 
 use crate::lent::{put_last, take_last};
 use crate::results::result_of;
