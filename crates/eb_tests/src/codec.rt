@@ -136,7 +136,7 @@ fn narrow_record(rt: HostRuntime) -> Result<(), Fail> {
         address: Width::W16,
         port: Width::W16,
     };
-    let mut values = Command::of(vec![in rt.alloc(); 0xbeef]?);
+    let mut values = Words::of(vec![in rt.alloc(); 0xbeef]?);
     values.push(0xcafe).ok().ok_or("value")?;
     let record = Record {
         head: RecordHead {
@@ -148,7 +148,7 @@ fn narrow_record(rt: HostRuntime) -> Result<(), Fail> {
         write_base: 0x11,
         values,
         return_base: 0,
-        addresses: Command::of(Vec::new(rt.alloc())),
+        addresses: Words::of(Vec::new(rt.alloc())),
     };
     let mut out = Vec::new(rt.alloc());
     encode_record(&header, &record, &mut out)
