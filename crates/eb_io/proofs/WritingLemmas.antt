@@ -23,7 +23,7 @@ told_none Nothing = refl
 told_none (Count n) = ap (λ (k : ℕ). Count k) (counted_none n)
 told_none (Octets xs) = ap (λ (l : List ℕ). Octets l) (sym (append-nil xs))
 
-told_on : (told : Told) (xs ys : List ℕ) → told_more (told_more told xs) ys ≡ told_more told (xs ++ ys)
+pub told_on : (told : Told) (xs ys : List ℕ) → told_more (told_more told xs) ys ≡ told_more told (xs ++ ys)
 told_on Nothing xs ys = refl
 told_on (Count n) xs ys = ap (λ (k : ℕ). Count k) (counted_on n (length xs) (length ys) (length (xs ++ ys)) (length-append xs ys))
 told_on (Octets before) xs ys = ap (λ (l : List ℕ). Octets l) (append_assoc before xs ys)

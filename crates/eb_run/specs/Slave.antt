@@ -1,8 +1,9 @@
 -- A slave with a plain master, on which a stream is served.
-use Rattle.std.specs.Prelude.{◌≡◌, ℕ, ◌<◌, List, length}
+use Rattle.std.specs.Prelude.{◌≡◌, ℕ, List}
 use Rattle.eb_base.specs.declared.width.Width.TheVariants.{W32}
 use Rattle.wb_signals.specs.History.{Entry}
 use Rattle.eb_session.specs.Keeping.{new_session}
+use Rattle.eb_server.specs.Rooms.{HasRoom}
 use Rattle.soc_machine.specs.Machine.{MachineState, wiring_of}
 use Rattle.soc_machine.specs.Plain.{new_plain}
 use Rattle.eb_run.specs.Streams.{System}
@@ -21,7 +22,7 @@ pub record IsNewSlave (s : PlainSlave) : Type 0 where
   pub session : s.session ≡ new_session s.session.slave
   pub width : s.session.slave.bus ≡ W32
   pub master : s.master ≡ new_plain s.master.began 0
-  pub room : 0 < length s.room.items
+  pub room : HasRoom s.rooms
 
 -- It was made of this machine and has its root table at this address.
 pub record IsMade (machine : MachineState) (root : ℕ) (s : PlainSlave) : Type 0 where

@@ -29,7 +29,7 @@ fn summary_of(
 {
     let mut source = LoadSource::new(start, cycles);
     let mut replies = CountSink::new();
-    match slave.serve(alloc, &mut source, &mut replies) {
+    match slave.serve(&mut source, &mut replies) {
         Ending::Clean => Ok(Summary::of(slave.journal(), source.given(), replies.count())),
         Ending::NoMemory => Err(NoMemory),
         Ending::WriteFault => unreachable!(),

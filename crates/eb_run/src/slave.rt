@@ -5,7 +5,7 @@ ghost use Rattle.eb_run.specs.Slave.{IsNewSlave, IsMade, system_of, entries_of};
 
 use eb_base::{NoMemory, Width};
 use eb_io::{Sink, Source};
-use eb_server::{Ending, serve};
+use eb_server::{Ending, Rooms, serve};
 use eb_session::{Session, Slave};
 use soc_journal::Journal;
 use soc_machine::{Machine, PlainMaster};
@@ -14,12 +14,12 @@ use std::alloc::Global;
 // How many octets of a stream are read at once.
 const ROOM: usize = 65_536;
 
-/// A slave on a bus of 32 data bits with the machine behind it, and the room that its stream is read into.
+/// A slave on a bus of 32 data bits with the machine behind it, and the rooms of its stream.
 #[derive(Drop)]
 pub struct PlainSlave {
     session: Session,
     master: PlainMaster,
-    room: Vec<u8>,
+    rooms: Rooms,
 }
 
 impl PlainSlave {
@@ -29,34 +29,26 @@ impl PlainSlave {
     {
         let bus = Width::W32;
         let session = Session::new(alloc, Slave { bus, root })?;
-        let Ok(room) = vec![in alloc; 0; ROOM] else {
-            return Err(NoMemory);
-        };
+        let rooms = Rooms::new(alloc, ROOM)?;
         Ok(PlainSlave {
             session,
             master: PlainMaster::new(alloc, machine, 0),
-            room,
+            rooms,
         })
     }
 
     /// Serves the stream of a source, and writes the replies to a sink.
-    pub fn serve<S: Source, K: Sink>(
-        &mut self,
-        alloc: Global,
-        source: &mut S,
-        sink: &mut K,
-    ) -> Ending
+    pub fn serve<S: Source, K: Sink>(&mut self, source: &mut S, sink: &mut K) -> Ending
         requires new { IsNewSlave self.old }
         ensures served { ServedOn (system_of self.old) (S.reading source.old) (S.reading source.new)
             (K.writing sink.old) (K.writing sink.new) (entries_of self.new) result }
     {
         let ending = serve(
-            alloc,
             source,
             sink,
             &mut self.session,
             &mut self.master,
-            &mut self.room,
+            &mut self.rooms,
         );
         // The entries are a legal history.
         let _ = self.master.journal();

@@ -27,7 +27,7 @@ fn serve_last<W: World, O: Sink>(
         (O.writing out.old) (O.writing out.new) (entries_of slave.new) result) }
 {
     let (others, mut file) = take_last(alloc, world);
-    let ending = slave.serve(alloc, &mut file, out);
+    let ending = slave.serve(&mut file, out);
     put_last(world, others, file);
     ending
 }

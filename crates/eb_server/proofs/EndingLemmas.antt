@@ -149,7 +149,7 @@ module _ (s : Slave) (r r' : Reading) (w w' : Writing) (whole : List ℕ) (has :
       let there = bad_of_more (sets_of s.bus) octets f.0 p why ran.2 in
       inl (omega (arith, inside, read.0), subst (λ (l : List ℕ). IsFirstBad (sets_of s.bus) None l p why) (sym f.1) there)
   by_ending ending.ReadFault octets items entries read ran answered = absurd (no_read (subst (λ (n : ℕ). Rose n r'.faults) read.2.faults read.3.rose))
-  by_ending ending.WriteFault octets items entries read ran answered = absurd (no_write (subst (λ (n : ℕ). Rose n w'.faults) answered.took.faults answered.wrote.rose))
+  by_ending ending.WriteFault octets items entries read ran answered = absurd (no_write answered.rose)
   by_ending ending.TooLong octets items entries read ran answered =
       let f = front_of whole r r' octets r'.left refl read.1 has in
       let front : take most_octets whole ≡ octets = ap (take most_octets) f.1 ∙ take_at octets f.0 most_octets read.0 in

@@ -1,3 +1,4 @@
 pub mod Serving
 pub mod Piece
 pub mod Laws
+pub mod Rooms

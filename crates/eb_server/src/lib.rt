@@ -4,6 +4,7 @@
 //!
 //! - `serving`: a whole stream
 //! - `piece`: a piece of a stream
+//! - `rooms`: where a piece is read to, and the replies to it are gathered
 //! - `ending`: how a stream ended
 //! - `laws`: what holds of every stream that is served
 #![tactic(auto)]
@@ -11,7 +12,9 @@
 mod ending;
 pub mod laws;
 mod piece;
+mod rooms;
 mod serving;
 
 pub use ending::Ending;
+pub use rooms::Rooms;
 pub use serving::serve;

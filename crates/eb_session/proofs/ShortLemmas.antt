@@ -22,6 +22,7 @@ use Rattle.eb_session.specs.Operations.{upto}
 use Rattle.eb_session.specs.declared.slave.Slave.{Slave}
 use Rattle.eb_session.specs.Replies.{read_word, answering, record_reply}
 use Rattle.eb_session.specs.Configuration.{register}
+use Rattle.eb_codec.specs.Decoding.{DecoderState}
 use Rattle.eb_session.specs.Keeping.{SessionState, FedItem, Answers, FeedsSession, Stays}
 use Rattle.eb_session.specs.Course.{IsShort}
 use Rattle.eb_session.proofs.ListLemmas.{length-upto}
@@ -81,22 +82,28 @@ is_short s sets (Some h) (Probed p) octets answers errors sp = elim sp.form [ ]
 is_short s sets (Some h) (Headed g) octets answers errors sp = elim sp.form [ ]
 is_short s sets (Some h) (Recorded r) octets answers errors sp = record_short s h r octets answers (register errors answers) sp.form.0 sp.form.1
 
-by_item : (m : ℕ) (old new : SessionState) (piece : List ℕ) (before after : MasterCycles) (taken : ℕ) (is : Bool) → FedItem m old piece new before after taken is → length new.reply ≤ length old.progress.pending + taken
+by_item : (m : ℕ) (old new : SessionState) (piece : List ℕ) (before after : MasterCycles) (taken : ℕ) (is : Bool) → FedItem m old piece new before after taken is
+    → length new.reply + length new.progress.pending ≤ length old.progress.pending + taken
 by_item m old new piece before after taken true (le, x, answers, ran) =
     let octets : List ℕ = old.progress.pending ++ take taken piece in
     let short : length new.reply ≤ length octets =
     subst (λ (l : List ℕ). length l ≤ length octets) (sym ran.reply) (is_short old.slave old.progress.sets old.progress.header x octets answers old.errors ran.spelled) in
-    omega (arith, short, le, length-append old.progress.pending (take taken piece), length-take taken piece)
-by_item m old new piece before after taken false w = let e = ap (λ (k : SessionState). length k.reply) w.1.kept in omega (arith, e)
+    let none : length new.progress.pending ≡ 0 = ap (λ (p : DecoderState). length p.pending) ran.progress in
+    omega (arith, short, le, none, length-append old.progress.pending (take taken piece), length-take taken piece)
+by_item m old new piece before after taken false (all, w) =
+    let e = ap (λ (k : SessionState). length k.reply) w.kept in
+    let pends = ap (λ (k : SessionState). length k.progress.pending) w.kept in
+    omega (arith, e, pends, all, length-append old.progress.pending piece)
 
 abbrev answer_ok : Fed → Result Fed End
 answer_ok fed = Ok fed
 
 fed_by : (m : ℕ) (old new : SessionState) (piece : List ℕ) (before after : MasterCycles) (fed : Fed) (q : Option End) → MatchOption q (Answers m old piece new before after (Ok fed)) (λ e. (answer_ok fed ≡ Err e) × Stays old new before after)
-    → length new.reply ≤ length old.progress.pending + fed.taken
+    → length new.reply + length new.progress.pending ≤ length old.progress.pending + fed.taken
 fed_by m old new piece before after fed None a = by_item m old new piece before after fed.taken fed.item a
 fed_by m old new piece before after fed (Some e) a = let f = a.0 in absurd (cc f)
 
--- the reply to what a call took
-pub fed_short : (m : ℕ) (old new : SessionState) (piece : List ℕ) (before after : MasterCycles) (fed : Fed) → FeedsSession m old piece new before after (Ok fed) → length new.reply ≤ length old.progress.pending + fed.taken
+-- the reply to what a call took, and what pends after it
+pub fed_short : (m : ℕ) (old new : SessionState) (piece : List ℕ) (before after : MasterCycles) (fed : Fed) → FeedsSession m old piece new before after (Ok fed)
+    → length new.reply + length new.progress.pending ≤ length old.progress.pending + fed.taken
 fed_short m old new piece before after fed f = fed_by m old new piece before after fed old.ending f

@@ -106,6 +106,14 @@ impl Session {
         self.errors
     }
 
+    /// How many of the octets that were taken belong to no whole item.
+    pub fn pending(&self) -> usize
+        ensures pending { result ≡ length self.now.progress.pending }
+        ensures most { result ≤ 4103 }
+    {
+        self.decoder.pending()
+    }
+
     /// Takes octets of the piece, up to the end of one item, runs the item, and replies to it.
     ///
     /// `item` is false exactly where less than an item pends; then the whole piece was taken. A record's operations are
@@ -131,7 +139,8 @@ impl Session {
         ensures placed { IfOk result (λ fed. Advances self.old self.new (length piece.now) fed) }
         ensures bound { self.new.progress.start + length self.new.progress.pending
             ≤ self.old.progress.start + length self.old.progress.pending + length piece.now }
-        ensures short { IfOk result (λ fed. length self.new.reply ≤ length self.old.progress.pending + fed.taken) }
+        ensures short { IfOk result (λ fed. length self.new.reply + length self.new.progress.pending
+            ≤ length self.old.progress.pending + fed.taken) }
         ensures running { OnOk result (self.new.ending ≡ None) }
         ensures closed { OnErr result ((M.cycles master.new).opened ≡ []) }
         ensures slave { self.new.slave ≡ self.old.slave }
@@ -222,7 +231,7 @@ impl Session {
         if let Some(ending) = self.ending {
             return ending;
         }
-        let pending = self.decoder.pending();
+        let pending = self.pending();
         let ending = if pending == 0 {
             End::Clean
         } else {

@@ -1,7 +1,7 @@
 use crate::no_room::NoRoom;
 use eb_base::Width;
 use eb_io::{MemSink, MemSource};
-use eb_server::{Ending, serve};
+use eb_server::{Ending, Rooms, serve};
 use eb_session::{Session, Slave};
 use std::test::Fail;
 
@@ -18,14 +18,13 @@ fn no_memory_for_a_record(rt: HostRuntime) -> Result<(), Fail> {
     let (bus, root) = (Width::W32, 0);
     let mut session = Session::new(alloc, Slave { bus, root }).ok().ok_or("session")?;
     let mut master = NoRoom::new();
-    let mut room = [0; 16];
+    let mut rooms = Rooms::new(alloc, 16).ok().ok_or("rooms")?;
     let ending = serve(
-        alloc,
         &mut source,
         &mut sink,
         &mut session,
         &mut master,
-        &mut room,
+        &mut rooms,
     );
     assert_eq!(rt; ending, Ending::NoMemory);
     assert_eq!(rt; sink.octets(), [0x4E, 0x6F, 0x14, 0x44].as_slice());
