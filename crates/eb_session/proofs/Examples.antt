@@ -178,21 +178,21 @@ unfolding placed bus stepped octets_of number
 silent_left = refl
 
 -- Writes to one address (WFF), and a reply whose writes go to one address and to configuration space (RFF and BCA).
-abbrev queue_items : List StreamItem
-queue_items = items_of (record { head = record { flags = 0xAA; enable = 0x0F; writes = 2; reads = 1 }; write_base = 0x40; values = 1 ∷ 2 ∷ []; return_base = 0x44; addresses = 0x40 ∷ [] } ∷ [])
+abbrev fifo_items : List StreamItem
+fifo_items = items_of (record { head = record { flags = 0xAA; enable = 0x0F; writes = 2; reads = 1 }; write_base = 0x40; values = 1 ∷ 2 ∷ []; return_base = 0x44; addresses = 0x40 ∷ [] } ∷ [])
 
-pub queue_cycles : cycles W32 queue_items
+pub fifo_cycles : cycles W32 fifo_items
     ≡ record {
       cut = false;
       ops = record { write = true; adr = 0x40; dat = 1; sel = 0x0F } ∷ record { write = true; adr = 0x40; dat = 2; sel = 0x0F }
           ∷ record { write = false; adr = 0x40; dat = 0; sel = 0x0F } ∷ [];
     } ∷ []
 unfolding placed
-queue_cycles = refl
+fifo_cycles = refl
 
-pub queue_replied : replies (slave W32 0) queue_items (Ack 0 ∷ Ack 0 ∷ Rty ∷ []) ≡ 0x4E ∷ 0x6F ∷ 0x14 ∷ 0x44 ∷ 0x0E ∷ 0x0F ∷ 1 ∷ 0 ∷ 0 ∷ 0 ∷ 0 ∷ 0x44 ∷ 0 ∷ 0 ∷ 0 ∷ 0 ∷ []
+pub fifo_replied : replies (slave W32 0) fifo_items (Ack 0 ∷ Ack 0 ∷ Rty ∷ []) ≡ 0x4E ∷ 0x6F ∷ 0x14 ∷ 0x44 ∷ 0x0E ∷ 0x0F ∷ 1 ∷ 0 ∷ 0 ∷ 0 ∷ 0 ∷ 0x44 ∷ 0 ∷ 0 ∷ 0 ∷ 0 ∷ []
 unfolding placed octets_of number part
-queue_replied = refl
+fifo_replied = refl
 
 -- A port of 16 bits on a bus of 64: the lowest address of a bus word is its highest lane. Of the reads only the lower lane
 -- is asked.

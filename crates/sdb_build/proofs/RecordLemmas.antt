@@ -48,8 +48,8 @@ module _ (p : Product) where
       let e = (and_parts (is_product p && is_in (address 4) at) (nat_le 1 (length words)) d).0 in
       named p (and_parts (is_product p) (is_in (address 4) at) e).0
 
-  queue_named : (at depth wait class major minor : ℕ) → (is_product p && is_in (address 4) at && is_in fifo_depth depth && is_abi wait class major minor) ≡ true → length p.name ≡ 19
-  queue_named at depth wait class major minor h =
+  fifo_named : (at depth wait class major minor : ℕ) → (is_product p && is_in (address 4) at && is_in fifo_depth depth && is_abi wait class major minor) ≡ true → length p.name ≡ 19
+  fifo_named at depth wait class major minor h =
       let a = (and_parts (is_product p && is_in (address 4) at && is_in fifo_depth depth) (is_abi wait class major minor) h).0 in
       let b = (and_parts (is_product p && is_in (address 4) at) (is_in fifo_depth depth) a).0 in
       named p (and_parts (is_product p) (is_in (address 4) at) b).0
@@ -69,7 +69,7 @@ whole_layer width (Ram p at size port wait class major minor) h =
 whole_layer width (Regs p at words port wait class major minor) h =
     whole_device p (registers_named p at words wait class major minor h) class major minor (tables.access_widths width) at (at + 4 * length words - 1)
 whole_layer width (Fifo p at depth port wait class major minor) h =
-    whole_device p (queue_named p at depth wait class major minor h) class major minor (tables.access_widths width) at (at + 8 - 1)
+    whole_device p (fifo_named p at depth wait class major minor h) class major minor (tables.access_widths width) at (at + 8 - 1)
 whole_layer width (Bridge p at bus) h =
     let own = (and_parts (is_product p && is_in (address 4) at) (bus_fields bus) h).0 in
     whole_bridge p (named p (and_parts (is_product p) (is_in (address 4) at) own).0) _ _ _

@@ -60,7 +60,7 @@ pub record BusTables : Type 0 where
 abbrev pub leaf : (Width → Record) → ItemTables
 leaf entry = record { entry = entry; images = λ base. [] }
 
--- Registers take 4 octets each, and a queue 8. The base of the bus behind a bridge is the bridge's address from the base of
+-- Registers take 4 octets each, and a FIFO 8. The base of the bus behind a bridge is the bridge's address from the base of
 -- its own bus.
 abbrev pub item_layer : ItemDescription-F ItemTables BusTables → ItemTables
 item_layer (Ram p at size port wait class major minor) = leaf (device class major minor p at size)

@@ -13,8 +13,8 @@ use soc_desc::{BusDescription, ItemDescription};
 /// The octets of a register.
 const REGISTER_LEN: u64 = 4;
 
-/// The octets of addresses that a queue takes.
-const QUEUE_LEN: u64 = 8;
+/// The octets of addresses that a FIFO takes.
+const FIFO_LEN: u64 = 8;
 
 /// The access widths of a device on a bus of this width, as bits.
 fn access_widths(width: Width) -> u32
@@ -120,7 +120,7 @@ pub fn entry(width: Width, item: &ItemDescription) -> Record
             ..
         } => {
             let abi = Abi::of(*class, *major, *minor);
-            device(width, abi, *at, QUEUE_LEN, product)
+            device(width, abi, *at, FIFO_LEN, product)
         }
         ItemDescription::Bridge { product, at, bus } => Record::Bridge {
             child: *at + bus.sdb,

@@ -64,7 +64,7 @@ pub enum ItemDescription {
         major: u8,
         minor: u8,
     },
-    /// A queue of so many words of 32 bits, which takes 8 octets of addresses.
+    /// A FIFO of so many words of 32 bits, which takes 8 octets of addresses.
     Fifo {
         product: Product,
         at: u64,

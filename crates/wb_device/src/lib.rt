@@ -1,4 +1,4 @@
-//! Devices of a Wishbone bus of 32 data bits: RAM, ROM, registers and a queue, by the device function.
+//! Devices of a Wishbone bus of 32 data bits: RAM, ROM, registers and a FIFO, by the device function.
 #![tactic(auto)]
 
 mod device;
