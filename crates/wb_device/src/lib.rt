@@ -3,8 +3,12 @@
 
 mod device;
 mod fifo;
+mod held;
 mod lanes;
 mod memory;
+mod piped;
 mod registers;
 
 pub use device::Device;
+pub use held::Held;
+pub use piped::Piped;
