@@ -23,14 +23,14 @@ use Rattle.wb_device.specs.declared.piped.Piped.{Piped}
 use Rattle.wb_device.specs.declared.held.Held.{Held}
 use Rattle.wb_adapter.specs.declared.FromClassic.{FromClassic}
 use Rattle.wb_adapter.specs.declared.ToClassic.{ToClassic}
-use Rattle.wb_tree.specs.declared.Node.{Node, Pipe, Classic, Wrapped, Bus}
-use Rattle.wb_tree.specs.declared.Branch.{Branch}
-use Rattle.wb_tree.specs.declared.Part.{Part as TreePart}
-use Rattle.wb_tree.specs.declared.Node.TheOpen.{Node-F, Branch-F, Part-F}
-use Rattle.wb_tree.specs.declared.Node.TheOpen as open'
-use Rattle.wb_tree.specs.declared.Node.TheViews.{out-Node, out-Branch, roll-Branch, out-roll-Branch, out-Part, roll-Part}
-use Rattle.wb_tree.specs.declared.Node.TheVariants.{rolls-Classic, rolls-Wrapped, outs-Classic, outs-Wrapped, rolls-Pipe, rolls-Bus, outs-Bus}
-use Rattle.wb_tree.specs.declared.Node.TheFolds.{map-Node, fold-roll-Node, fold-roll-Branch, fold_out-Branch, fold-roll-Part, fold_out-Part, every_here-Branch, every_held-Branch, every_made-Branch, every_here-Node, every_held-Node, every_made-Node, every_held-Part, every_made-Part}
+use Rattle.wb_tree.specs.declared.node.Node.{Node, Pipe, Classic, Wrapped, Bus}
+use Rattle.wb_tree.specs.declared.branch.Branch.{Branch}
+use Rattle.wb_tree.specs.declared.part.Part.{Part as TreePart}
+use Rattle.wb_tree.specs.declared.node.Node.TheOpen.{Node-F, Branch-F, Part-F}
+use Rattle.wb_tree.specs.declared.node.Node.TheOpen as open'
+use Rattle.wb_tree.specs.declared.node.Node.TheViews.{out-Node, out-Branch, roll-Branch, out-roll-Branch, out-Part, roll-Part}
+use Rattle.wb_tree.specs.declared.node.Node.TheVariants.{rolls-Classic, rolls-Wrapped, outs-Classic, outs-Wrapped, rolls-Pipe, rolls-Bus, outs-Bus}
+use Rattle.wb_tree.specs.declared.node.Node.TheFolds.{map-Node, fold-roll-Node, fold-roll-Branch, fold_out-Branch, fold-roll-Part, fold_out-Part, every_here-Branch, every_held-Branch, every_made-Branch, every_here-Node, every_held-Node, every_made-Node, every_held-Part, every_made-Part}
 use Rattle.wb_tree.specs.Tree.{node_slave, branch_slave, part_slave, piped_slave, node_layer, branch_layer, part_layer, branch_parts, branch_width, branch_debtor, alone_branch, IsSound, IsSoundBranch, IsSoundPart, AllSound, sound_node, held_sound, wrapped_slave, wrapped_sound}
 
 -- ---- what a node, a bus and a child are, by their fields

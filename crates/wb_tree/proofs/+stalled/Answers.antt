@@ -3,21 +3,21 @@ use Rattle.std.proofs.Common.{rules, ◌≡◌, ap, ◌∙◌, subst, length, ar
 use Rattle.wb_signals.specs.Request.{Request, less}
 use Rattle.wb_signals.specs.Slave.{Slave}
 use Rattle.wb_signals.specs.Parts.{child_at, child_of}
-use Rattle.wb_tree.specs.declared.Node.TheViews.{out-Branch}
-use Rattle.wb_tree.specs.declared.Node.TheFolds.{the_lemmas}
+use Rattle.wb_tree.specs.declared.node.Node.TheViews.{out-Branch}
+use Rattle.wb_tree.specs.declared.node.Node.TheFolds.{the_lemmas}
 use Rattle.wb_tree.specs.Tree.{part_slave, branch_parts}
 use Rattle.wb_tree.proofs.Trees
 use Rattle.wb_tree.proofs.+stalled.Goals as goal
 
-pub Branch::stalled-index-part-requires : goal.Branch::stalled-index-part-requires
-Branch::stalled-index-part-requires t c =
+pub branch::Branch::stalled-index-part-requires : goal.branch::Branch::stalled-index-part-requires
+branch::Branch::stalled-index-part-requires t c =
     let b = c.args.self.now in
     let k = c.find-to.ensures.at ∙ ap (λ parts. child_at (map child_of (map part_slave parts)) c.op.inside.adr) c.deref.ensures.value ∙ ap (λ (x : Request). child_at (map child_of (branch_parts b)) x.adr) c.op.view_is in
     let l = Trees.k_within b c.requires.sound c.args.op.now c.requires.taken c.find-to.result k c.in-Top.k c.in-Top.is in
     let o = (out-Branch b).parts.ok.0 in omega (arith, o, l)
 
-pub Branch::stalled-stalled-requires : goal.Branch::stalled-stalled-requires
-Branch::stalled-stalled-requires t c =
+pub branch::Branch::stalled-stalled-requires : goal.branch::Branch::stalled-stalled-requires
+branch::Branch::stalled-stalled-requires t c =
     let b = c.args.self.now in
     let k = c.find-to.ensures.at ∙ ap (λ parts. child_at (map child_of (map part_slave parts)) c.op.inside.adr) c.deref.ensures.value ∙ ap (λ (x : Request). child_at (map child_of (branch_parts b)) x.adr) c.op.view_is in
     let d = c.index-part.result.now in
@@ -32,33 +32,33 @@ Branch::stalled-stalled-requires t c =
       ),
     )
 
-pub Branch::stalled-returns-in-Miss : goal.Branch::stalled-returns-in-Miss
-Branch::stalled-returns-in-Miss t c =
+pub branch::Branch::stalled-returns-in-Miss : goal.branch::Branch::stalled-returns-in-Miss
+branch::Branch::stalled-returns-in-Miss t c =
     let b = c.args.self.now in
     let k = c.find-to.ensures.at ∙ ap (λ parts. child_at (map child_of (map part_slave parts)) c.op.inside.adr) c.deref.ensures.value ∙ ap (λ (x : Request). child_at (map child_of (branch_parts b)) x.adr) c.op.view_is in
     let n : c.len.result ≡ length (out-Branch b).parts.items = let o = (out-Branch b).parts.ok.0 in omega (arith, o, c.len.ensures) in
     record { stalled = rw n (Trees.stalls_miss b c.requires.sound c.args.op.now c.requires.taken c.find-to.result k c.in-Miss.is) }
 
-pub Branch::stalled-returns-then-to-k : goal.Branch::stalled-returns-then-to-k
-Branch::stalled-returns-then-to-k t c =
+pub branch::Branch::stalled-returns-then-to-k : goal.branch::Branch::stalled-returns-then-to-k
+branch::Branch::stalled-returns-then-to-k t c =
     let b = c.args.self.now in
     let k = c.find-to.ensures.at ∙ ap (λ parts. child_at (map child_of (map part_slave parts)) c.op.inside.adr) c.deref.ensures.value ∙ ap (λ (x : Request). child_at (map child_of (branch_parts b)) x.adr) c.op.view_is in
     record { stalled = c.stalled.ensures.stalled ∙ Trees.asked_stalls b c.requires.sound c.args.op.now c.requires.taken c.find-to.result k c.in-Top.k c.in-Top.is c.if-to-k.true c.index-part.result.now c.index-part.ensures }
 
-pub Branch::stalled-returns-else-to-k : goal.Branch::stalled-returns-else-to-k
-Branch::stalled-returns-else-to-k t c =
+pub branch::Branch::stalled-returns-else-to-k : goal.branch::Branch::stalled-returns-else-to-k
+branch::Branch::stalled-returns-else-to-k t c =
     let b = c.args.self.now in
     let k = c.find-to.ensures.at ∙ ap (λ parts. child_at (map child_of (map part_slave parts)) c.op.inside.adr) c.deref.ensures.value ∙ ap (λ (x : Request). child_at (map child_of (branch_parts b)) x.adr) c.op.view_is in
     record { stalled = Trees.stalls_elsewhere b c.requires.sound c.args.op.now c.requires.taken c.find-to.result k c.in-Top.k c.in-Top.is c.if-to-k.false }
 
-pub NodeClocked::stalled-stalled-requires-in-Classic-clause-sound : goal.NodeClocked::stalled-stalled-requires-in-Classic-clause-sound
-NodeClocked::stalled-stalled-requires-in-Classic-clause-sound t c = Trees.classic_held c.args.self.now c.in-Classic.slave c.in-Classic.is c.requires.sound
+pub node::NodeClocked::stalled-stalled-requires-in-Classic-clause-sound : goal.node::NodeClocked::stalled-stalled-requires-in-Classic-clause-sound
+node::NodeClocked::stalled-stalled-requires-in-Classic-clause-sound t c = Trees.classic_held c.args.self.now c.in-Classic.slave c.in-Classic.is c.requires.sound
 
-pub NodeClocked::stalled-stalled-requires-in-Wrapped-clause-sound : goal.NodeClocked::stalled-stalled-requires-in-Wrapped-clause-sound
-NodeClocked::stalled-stalled-requires-in-Wrapped-clause-sound t c = Trees.wrapped_held c.args.self.now c.in-Wrapped.slave c.in-Wrapped.is c.requires.sound
+pub node::NodeClocked::stalled-stalled-requires-in-Wrapped-clause-sound : goal.node::NodeClocked::stalled-stalled-requires-in-Wrapped-clause-sound
+node::NodeClocked::stalled-stalled-requires-in-Wrapped-clause-sound t c = Trees.wrapped_held c.args.self.now c.in-Wrapped.slave c.in-Wrapped.is c.requires.sound
 
-pub NodeClocked::stalled-stalled-requires-in-Bus : goal.NodeClocked::stalled-stalled-requires-in-Bus
-NodeClocked::stalled-stalled-requires-in-Bus t c =
+pub node::NodeClocked::stalled-stalled-requires-in-Bus : goal.node::NodeClocked::stalled-stalled-requires-in-Bus
+node::NodeClocked::stalled-stalled-requires-in-Bus t c =
     let n = c.args.self.now in (
       search (rules, the_lemmas),
       (
@@ -67,7 +67,7 @@ NodeClocked::stalled-stalled-requires-in-Bus t c =
       ),
     )
 
-pub Part::stalled-stalled-requires : goal.Part::stalled-stalled-requires
-Part::stalled-stalled-requires t c =
+pub part::Part::stalled-stalled-requires : goal.part::Part::stalled-stalled-requires
+part::Part::stalled-stalled-requires t c =
     let p = c.args.self.now in
     (search (rules, the_lemmas), (Trees.part_held p c.requires.sound, Trees.node_asked p c.args.op.now _ (ap (less p.first) c.op.view_is) c.requires.taken))
