@@ -15,6 +15,7 @@ pub struct Piped {
     wait: u8,
     line: [Option<Answer>; 16],
     ghost short: { wait ≤ 15 },
+    ghost whole: { length line ≡ 16 },
 }
 
 impl Piped {

@@ -322,11 +322,16 @@ stepped-nothing : (width : Width) (r : Request) → stepped (Nothing ∷ []) (re
 unfolding stepped
 stepped-nothing width r = refl
 
+pub stepped-miss : (width : Width) (parts : List Part) (r : Request) → AllFitIn width parts
+    → stepped (contents_in parts) (record { place = places_before (length parts) parts; bus = width; request = r; upper_half = false }) ≡ record { contents = contents_in parts; answer = Err }
+stepped-miss width [] r f = stepped-nothing width r
+stepped-miss width (p ∷ parts) r f =
+    let a : Arrival = record { place = places_before (length parts) parts; bus = width; request = r; upper_half = false } in
+    rw (stepped-right p.slave.contents (contents_in parts) p.slave.wiring.places a f.0.shaped.all, stepped-miss width parts r f.1) refl
+
 stepped-Past : (width : Width) {parts : List Part} (r : Request) → Past parts r.adr → AllFitIn width parts
     → stepped (contents_in parts) (route_in width (map child_of parts) r) ≡ record { contents = contents_in parts; answer = Err }
-stepped-Past width r past_end f = stepped-nothing width r
-stepped-Past width r (past_over {p} {parts} e w) f =
-    rw (e, stepped-right p.slave.contents (contents_in parts) p.slave.wiring.places (route_in width (map child_of parts) r) f.0.shaped.all, stepped-Past width r w f.1) refl
+stepped-Past width {parts} r w f = ap (stepped (contents_in parts)) (route_in-Past width {r = r} w) ∙ stepped-miss width parts r f
 
 pub missed-Some : (width : Width) (parts : List Part) (owed : List Owed) (r : Request) → left owed ≡ [] → AllFitIn width parts → Past parts r.adr
     → miss_owed parts ∷ [] ≡ owed_after (bus width (map child_of parts)) (contents_in parts) owed (Some r)

@@ -1,18 +1,18 @@
 -- A bus fits another: its numbers fit one another, and it takes what comes at its addresses.
-use Rattle.std.proofs.Common.{◌≡◌, ℕ, ◌+◌, ◌-◌, ◌%◌, ◌^◌, ◌<◌, ◌≤◌, ◌==◌, ◌&&◌, nat_lt, nat_le, List, [], ◌∷◌, length, map, Bool, true, false, cond, refl, ap, sym, arith}
+use Rattle.std.proofs.Common.{◌≡◌, ℕ, ◌+◌, ◌-◌, ◌%◌, ◌^◌, ◌<◌, ◌≤◌, ◌==◌, ◌&&◌, nat_lt, nat_le, List, [], ◌∷◌, length, map, Bool, true, false, cond, refl, ap, arith}
 use Rattle.eb_base.specs.declared.width.Width.{Width}
 use Rattle.eb_base.specs.declared.width.Width.TheVariants.{W8, W16, W32, W64}
 use Rattle.eb_base.specs.Width.{octets}
 use Rattle.wb_signals.specs.Request.{Request}
 use Rattle.wb_signals.specs.Wiring.{Arrival}
-use Rattle.wb_signals.specs.Bus.{Child, covers, inside, places_in, route_in, queue_in, bus}
+use Rattle.wb_signals.specs.Bus.{Child, inside, places_in, route_in, queue_in, bus}
 use Rattle.wb_signals.specs.Slave.{Slave, IsShaped}
-use Rattle.wb_signals.specs.Parts.{Part, child_of, contents_in, places_before, FitsIn, AllFitIn}
+use Rattle.wb_signals.specs.Parts.{Part, child_of, places_before, FitsIn, AllFitIn}
 use Rattle.wb_signals.specs.Turn.{bus_slave}
 use Rattle.wb_signals.specs.declared.debtor.Debtor.TheVariants.{Nobody}
 use Rattle.wb_signals.proofs.BusLemmas.{Nth, nth_here, nth_there, Aimed, at_child, at_miss, nth_of-At, fit-Nth, covers-At, aimed, route_in-At, route_in-Past, length-contents_in}
 
-places_some : (children : List Child) → 0 < places_in children
+pub places_some : (children : List Child) → 0 < places_in children
 places_some [] = omega arith
 places_some (c ∷ children) = omega (arith, places_some children)
 
@@ -24,7 +24,7 @@ before-length : (parts : List Part) → places_before (length parts) parts < pla
 before-length [] = omega arith
 before-length (p ∷ parts) = omega (arith, before-length parts)
 
-leads-within : (width : Width) {parts : List Part} (r : Request) {k : ℕ} → Aimed parts r.adr k → AllFitIn width parts → (bus width (map child_of parts)).accepts r ≡ true
+pub leads-within : (width : Width) {parts : List Part} (r : Request) {k : ℕ} → Aimed parts r.adr k → AllFitIn width parts → (bus width (map child_of parts)).accepts r ≡ true
     → (route_in width (map child_of parts) r).place < places_in (map child_of parts)
 unfolding bus
 leads-within width {parts} r (at_child {k = k} {q = q} w) f t =
@@ -39,7 +39,7 @@ queue_by : (b : Bool) (place n own more total : ℕ) → nat_lt place n ≡ b �
 queue_by true place n own more total e h g = let l : place < n = grind (arith, e) in omega (arith, h l)
 queue_by false place n own more total e h g = let l : n ≤ place = grind (arith, e) in omega (arith, g l)
 
-queues-within : (width : Width) (parts : List Part) → AllFitIn width parts → (place : ℕ) → place < places_in (map child_of parts) → queue_in (map child_of parts) place < places_in (map child_of parts)
+pub queues-within : (width : Width) (parts : List Part) → AllFitIn width parts → (place : ℕ) → place < places_in (map child_of parts) → queue_in (map child_of parts) place < places_in (map child_of parts)
 queues-within width [] f place h = h
 queues-within width (p ∷ parts) f place h =
     let n = p.slave.wiring.places in
@@ -72,7 +72,7 @@ below m n e = grind (arith, e)
 equal : (m n : ℕ) → (m == n) ≡ true → m ≡ n
 equal m n e = grind (arith, e)
 
-takes_by : (width : Width) (adr sel first last : ℕ) → first % octets width ≡ 0 → (nat_le first adr && nat_le adr last) ≡ true → ((adr % octets width == 0) && nat_lt sel (2 ^ octets width)) ≡ true
+pub takes_by : (width : Width) (adr sel first last : ℕ) → first % octets width ≡ 0 → (nat_le first adr && nat_le adr last) ≡ true → ((adr % octets width == 0) && nat_lt sel (2 ^ octets width)) ≡ true
     → (((adr - first) % octets width == 0) && nat_lt sel (2 ^ octets width)) ≡ true
 takes_by width adr sel first last b c t =
     let p = both (adr % octets width == 0) (nat_lt sel (2 ^ octets width)) t in

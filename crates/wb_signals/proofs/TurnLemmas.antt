@@ -38,14 +38,14 @@ fits-takes width children r h =
     let b : nat_lt r.sel (2 ^ octets width) ≡ true = nat_lt-true r.sel (2 ^ octets width) h.1 in
     rw (a, b) refl
 
-both : (a b : Bool) → (a && b) ≡ true → (a ≡ true) × (b ≡ true)
+pub both : (a b : Bool) → (a && b) ≡ true → (a ≡ true) × (b ≡ true)
 both true b e = (refl, e)
 both false b e = absurd (cc)
 
-below : (m n : ℕ) → nat_lt m n ≡ true → m < n
+pub below : (m n : ℕ) → nat_lt m n ≡ true → m < n
 below m n e = grind (arith, e)
 
-equal : (m n : ℕ) → (m == n) ≡ true → m ≡ n
+pub equal : (m n : ℕ) → (m == n) ≡ true → m ≡ n
 equal m n e = grind (arith, e)
 
 pub takes-fits : (width : Width) (children : List Child) (r : Request) → (bus width children).accepts r ≡ true → FitsBus width r

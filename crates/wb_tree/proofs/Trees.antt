@@ -1,5 +1,5 @@
 -- A tree of nodes, one layer at a time.
-use Rattle.std.proofs.Common.{◌≡◌, ◌≢◌, ℕ, zero, suc, ◌+◌, ◌<◌, ◌≤◌, ◌&&◌, nat_lt, nat_le, List, [], ◌∷◌, length, map, drop, get_or, set, refl, ap, sym, ◌∙◌, subst, arith, Bool, true, false, not, Option, Some, None}
+use Rattle.std.proofs.Common.{◌≡◌, ◌≢◌, ℕ, zero, suc, ◌+◌, ◌-◌, ◌<◌, ◌≤◌, ◌&&◌, nat_lt, nat_le, List, [], ◌∷◌, length, map, drop, get_or, set, refl, ap, sym, ◌∙◌, subst, arith, Bool, true, false, not, Option, Some, None}
 use Rattle.std.specs.Option.{ForSome, option_map}
 use Rattle.std.specs.Vec.{with_item}
 use Rattle.std.specs.declared.alloc.Global.{Global}
@@ -7,51 +7,71 @@ use Rattle.std.specs.declared.vec.Vec.{Vec}
 use Rattle.std.specs.declared.boxed.Box.{Box}
 use Rattle.std.specs.formers.vec.Vec.{holding, holding_along, fits, mapped}
 use Rattle.std.proofs.Math.Seq.{drop-cons}
-use Rattle.std.proofs.lemmas.List.{length-map, length-set, get_or-map, map-set}
+use Rattle.std.proofs.lemmas.List.{length-map, length-set, length-drop, get_or-map, get_or-set_same, map-set}
 use Rattle.eb_base.specs.declared.width.Width.{Width}
 use Rattle.wb_signals.specs.Request.{Request, less}
 use Rattle.wb_signals.specs.Cycles.{FitsBus}
 use Rattle.wb_signals.specs.Bus.{bus, covers, inside}
 use Rattle.wb_signals.specs.Slave.{Slave, given, ticked, is_stalled, owes}
-use Rattle.wb_signals.specs.Parts.{Part, child_of, child_at, no_part, part_at, part_ticked, inside_given, AllFitIn, AllQuiet}
+use Rattle.wb_signals.specs.Standing.{ClassicSlave}
+use Rattle.wb_signals.specs.Narrow.{narrow_slave}
+use Rattle.wb_signals.specs.Parts.{Part, child_of, child_at, farther_owed, places_before, no_part, part_at, part_ticked, inside_given, AllFitIn, AllQuiet}
 use Rattle.wb_signals.specs.Turn.{bus_slave, owed_by, aim_of, goes, IsFocus, CanPass, is_nobody, missed_answer, parts_after, top_if, miss_if, debtor_after, OwesAlone}
 use Rattle.wb_signals.specs.declared.debtor.Debtor.{Debtor}
 use Rattle.wb_signals.specs.declared.debtor.Debtor.TheVariants.{Nobody, Miss, Top}
 use Rattle.wb_signals.proofs.BusLemmas.{nat_lt-true, nat_lt-false}
-use Rattle.wb_signals.proofs.TurnLemmas.{takes-fits, set-past, stalls-nobody, stalls-miss, stalls-here, stalls-elsewhere, covered, taken, given-Top, given-missed, focus_here, pass_here, aims_here, slave_now, alone_now, owes-alone}
+use Rattle.wb_signals.proofs.TurnLemmas.{takes-fits, set-past, stalls-nobody, stalls-miss, stalls-here, stalls-elsewhere, covered, taken, given-Top, given-missed, focus_here, pass_here, aims_here, slave_now, alone_now, children_now, owes-alone}
+use Rattle.wb_signals.proofs.NarrowLemmas.{length-back}
+use Rattle.wb_signals.specs.declared.answer.Answer.{Answer}
+use Rattle.wb_device.specs.Line.{owed_from}
+use Rattle.wb_adapter.specs.Adapted.{behind, through}
+use Rattle.wb_device.specs.Standing.{held_leaf}
+use Rattle.circular_buffer.specs.Buffer.{Buffer, buffer}
 use Rattle.wb_device.specs.declared.piped.Piped.{Piped}
 use Rattle.wb_device.specs.declared.held.Held.{Held}
 use Rattle.wb_adapter.specs.declared.FromClassic.{FromClassic}
 use Rattle.wb_adapter.specs.declared.ToClassic.{ToClassic}
-use Rattle.wb_tree.specs.declared.node.Node.{Node, Pipe, Classic, Wrapped, Bus}
+use Rattle.wb_tree.specs.declared.node.Node.{Node, Pipe, Classic, Wrapped, Bus, Narrow}
 use Rattle.wb_tree.specs.declared.branch.Branch.{Branch}
 use Rattle.wb_tree.specs.declared.part.Part.{Part as TreePart}
 use Rattle.wb_tree.specs.declared.node.Node.TheOpen.{Node-F, Branch-F, Part-F}
 use Rattle.wb_tree.specs.declared.node.Node.TheOpen as open'
 use Rattle.wb_tree.specs.declared.node.Node.TheViews.{out-Node, out-Branch, roll-Branch, out-roll-Branch, out-Part, roll-Part}
-use Rattle.wb_tree.specs.declared.node.Node.TheVariants.{rolls-Classic, rolls-Wrapped, outs-Classic, outs-Wrapped, rolls-Pipe, rolls-Bus, outs-Bus}
-use Rattle.wb_tree.specs.declared.node.Node.TheFolds.{map-Node, fold-roll-Node, fold-roll-Branch, fold_out-Branch, fold-roll-Part, fold_out-Part, every_here-Branch, every_held-Branch, every_made-Branch, every_here-Node, every_held-Node, every_made-Node, every_held-Part, every_made-Part}
-use Rattle.wb_tree.specs.Tree.{node_slave, branch_slave, part_slave, piped_slave, node_layer, branch_layer, part_layer, branch_parts, branch_width, branch_debtor, alone_branch, IsSound, IsSoundBranch, IsSoundPart, AllSound, sound_node, held_sound, wrapped_slave, wrapped_sound}
+use Rattle.wb_tree.specs.declared.node.Node.TheVariants.{rolls-Classic, rolls-Wrapped, outs-Classic, outs-Wrapped, rolls-Pipe, rolls-Bus, outs-Bus, rolls-Narrow, outs-Narrow}
+use Rattle.wb_tree.specs.declared.node.Node.TheFolds.{map-Node, fold-roll-Node, fold_out-Node, fold-roll-Branch, fold_out-Branch, fold-roll-Part, fold_out-Part, every_here-Branch, every_held-Branch, every_made-Branch, every_here-Node, every_held-Node, every_made-Node, every_held-Part, every_made-Part}
+use Rattle.wb_tree.specs.Tree.{Inside, bus_of, narrow_of, inside_of, narrow_branch, branch_children, IsNarrow, IsNew, Keeps, node_slave, branch_slave, part_slave, piped_slave, node_layer, branch_layer, part_layer, branch_parts, branch_width, branch_debtor, IsSound, IsSoundBranch, IsSoundPart, IsSoundInside, AllSound, sound_node, held_sound, wrapped_slave, wrapped_sound}
 
 -- ---- what a node, a bus and a child are, by their fields
 
 pub node_slave-Pipe : (p : Piped) → node_slave (Pipe p) ≡ piped_slave p
-node_slave-Pipe p = ap node_slave (sym (rolls-Pipe p)) ∙ fold-roll-Node Slave Slave Part node_layer branch_layer part_layer (open'.Pipe p)
+node_slave-Pipe p = ap node_slave (sym (rolls-Pipe p)) ∙ fold-roll-Node Slave Inside Part node_layer branch_layer part_layer (open'.Pipe p)
 
 pub node_slave-Bus : (b : Box Branch Global) → node_slave (Bus b) ≡ branch_slave b.value
-node_slave-Bus b = ap node_slave (sym (rolls-Bus b)) ∙ fold-roll-Node Slave Slave Part node_layer branch_layer part_layer (open'.Bus b)
+node_slave-Bus b = ap node_slave (sym (rolls-Bus b)) ∙ fold-roll-Node Slave Inside Part node_layer branch_layer part_layer (open'.Bus b)
+
+pub node_slave-Narrow : (b : Box Branch Global) → node_slave (Narrow b) ≡ narrow_branch b.value
+node_slave-Narrow b = ap node_slave (sym (rolls-Narrow b)) ∙ fold-roll-Node Slave Inside Part node_layer branch_layer part_layer (open'.Narrow b)
+
+abbrev pub inside_in : Branch-F Node Branch TreePart → Inside
+inside_in x = record { width = x.width; parts = map part_slave x.parts.items; debtor = x.debtor; uppers = x.uppers.items }
+
+pub inside_of-out : (b : Branch) → inside_of b ≡ inside_in (out-Branch b)
+inside_of-out b = fold_out-Branch Slave Inside Part node_layer branch_layer part_layer b
 
 pub branch_slave-roll : (x : Branch-F Node Branch TreePart) → branch_slave (roll-Branch x) ≡ bus_slave x.width (map part_slave x.parts.items) x.debtor
-branch_slave-roll x = fold-roll-Branch Slave Slave Part node_layer branch_layer part_layer x
+branch_slave-roll x = ap bus_of (fold-roll-Branch Slave Inside Part node_layer branch_layer part_layer x)
 
 pub branch_slave-out : (b : Branch) → branch_slave b ≡ bus_slave (branch_width b) (branch_parts b) (branch_debtor b)
-branch_slave-out b = fold_out-Branch Slave Slave Part node_layer branch_layer part_layer b
+branch_slave-out b = ap bus_of (inside_of-out b)
+
+pub narrow_branch-out : (b : Branch) → narrow_branch b ≡ narrow_slave (branch_parts b) (branch_debtor b) (out-Branch b).uppers.items
+narrow_branch-out b = ap narrow_of (inside_of-out b)
 
 pub part_slave-roll : (x : Part-F Node Branch TreePart) → part_slave (roll-Part x) ≡ record { first = x.first; last = x.last; slave = node_slave x.node }
-part_slave-roll x = fold-roll-Part Slave Slave Part node_layer branch_layer part_layer x
+part_slave-roll x = fold-roll-Part Slave Inside Part node_layer branch_layer part_layer x
 
 pub part_slave-out : (p : TreePart) → part_slave p ≡ record { first = (out-Part p).first; last = (out-Part p).last; slave = node_slave (out-Part p).node }
-part_slave-out p = fold_out-Part Slave Slave Part node_layer branch_layer part_layer p
+part_slave-out p = fold_out-Part Slave Inside Part node_layer branch_layer part_layer p
 
 -- ---- what is sound, one layer at a time
 
@@ -63,12 +83,12 @@ pairs_of : (parts : List TreePart) → AllSound parts → (ys : List ((z : TreeP
 pairs_of [] h = ([], refl)
 pairs_of (p ∷ parts) h = let r = pairs_of parts h.1 in ((p, h.0) ∷ r.0, ap (λ ps. p ∷ ps) r.1)
 
-pub sound_here : (b : Branch) → IsSoundBranch b → OwesAlone (branch_width b) (branch_parts b) (branch_debtor b)
-sound_here b h = every_here-Branch sound_node alone_branch (λ _. Unit {0}) b h
+pub sound_here : (b : Branch) → IsSoundBranch b → IsSoundInside (out-Branch b)
+sound_here b h = every_here-Branch sound_node IsSoundInside (λ _. Unit {0}) b h
 
 pub sound_held : (b : Branch) → IsSoundBranch b → AllSound (out-Branch b).parts.items
 sound_held b h =
-    let r = every_held-Branch sound_node alone_branch (λ _. Unit {0}) b h in
+    let r = every_held-Branch sound_node IsSoundInside (λ _. Unit {0}) b h in
     subst (λ (x : Branch-F Node Branch TreePart). AllSound x.parts.items) r.1 (sound_pairs r.0.parts.items)
 
 -- A `Vec` of other elements whose images are these.
@@ -78,31 +98,36 @@ vec_over h d ys e =
     let y = holding d ys (fits d ys l) in
     (y, holding_along d (map h ys) d.items e (fits y (map h ys) (length-map ys h)) d.ok)
 
-pub sound_made : (x : Branch-F Node Branch TreePart) → AllSound x.parts.items → alone_branch x → IsSoundBranch (roll-Branch x)
+pub sound_made : (x : Branch-F Node Branch TreePart) → AllSound x.parts.items → IsSoundInside x → IsSoundBranch (roll-Branch x)
 sound_made x h q =
     let r = pairs_of x.parts.items h in
     let v = vec_over (λ (e : (z : TreePart) × IsSoundPart z). e.0) x.parts r.0 r.1 in
-    every_made-Branch sound_node alone_branch (λ _. Unit {0}) x
-    (record { width = x.width; parts = v.0; debtor = x.debtor })
-    (ap (λ (ps : Vec TreePart Global). record { width = x.width; parts = ps; debtor = x.debtor }) v.1) q
+    every_made-Branch sound_node IsSoundInside (λ _. Unit {0}) x
+    (record { width = x.width; parts = v.0; debtor = x.debtor; uppers = x.uppers })
+    (ap (λ (ps : Vec TreePart Global). record { width = x.width; parts = ps; debtor = x.debtor; uppers = x.uppers }) v.1) q
 
 -- A child is sound where its node is, and a node where its bus is.
 pub part_held : (p : TreePart) → IsSoundPart p → IsSound (out-Part p).node
 part_held p h =
-    let r = every_held-Part sound_node alone_branch (λ _. Unit {0}) p h in
+    let r = every_held-Part sound_node IsSoundInside (λ _. Unit {0}) p h in
     subst (λ (x : Part-F Node Branch TreePart). IsSound x.node) r.1 r.0.node.1
 
 pub part_made : (x : Part-F Node Branch TreePart) → IsSound x.node → IsSoundPart (roll-Part x)
-part_made x h = every_made-Part sound_node alone_branch (λ _. Unit {0}) x (record { first = x.first; last = x.last; node = (x.node, h) }) refl tt
+part_made x h = every_made-Part sound_node IsSoundInside (λ _. Unit {0}) x (record { first = x.first; last = x.last; node = (x.node, h) }) refl tt
 
 pub pipe_sound : (p : Piped) → IsSound (Pipe p)
 pipe_sound p =
-    subst IsSound (rolls-Pipe p) (every_made-Node sound_node alone_branch (λ _. Unit {0}) (open'.Pipe p) (open'.Pipe p) refl tt)
+    subst IsSound (rolls-Pipe p) (every_made-Node sound_node IsSoundInside (λ _. Unit {0}) (open'.Pipe p) (open'.Pipe p) refl tt)
 
 pub bus_sound : (b : Box Branch Global) → IsSoundBranch b.value → IsSound (Bus b)
 bus_sound b h =
-    subst IsSound (rolls-Bus b) (every_made-Node sound_node alone_branch (λ _. Unit {0}) (open'.Bus b)
+    subst IsSound (rolls-Bus b) (every_made-Node sound_node IsSoundInside (λ _. Unit {0}) (open'.Bus b)
     (open'.Bus (record { ptr = b.ptr; alloc = b.alloc; value = (b.value, h) })) refl tt)
+
+pub narrow_sound : (b : Box Branch Global) → IsSoundBranch b.value → IsNarrow b.value → IsSound (Narrow b)
+narrow_sound b h w =
+    subst IsSound (rolls-Narrow b) (every_made-Node sound_node IsSoundInside (λ _. Unit {0}) (open'.Narrow b)
+    (open'.Narrow (record { ptr = b.ptr; alloc = b.alloc; value = (b.value, h) })) refl w)
 
 -- What lies behind a layer of a bus is sound.
 abbrev HoldsSound : Node-F Node Branch TreePart → Type 0
@@ -110,6 +135,7 @@ HoldsSound (open'.Pipe p) = Unit {0}
 HoldsSound (open'.Classic a) = Unit {0}
 HoldsSound (open'.Wrapped a) = Unit {0}
 HoldsSound (open'.Bus b) = IsSoundBranch b.value
+HoldsSound (open'.Narrow b) = IsSoundBranch b.value
 
 holds_sound : (y : Node-F ((z : Node) × IsSound z) ((z : Branch) × IsSoundBranch z) ((z : TreePart) × IsSoundPart z))
     → HoldsSound (map-Node ((z : Node) × IsSound z) ((z : Branch) × IsSoundBranch z) ((z : TreePart) × IsSoundPart z) Node Branch TreePart (λ e. e.0) (λ e. e.0) (λ e. e.0) y)
@@ -117,31 +143,83 @@ holds_sound (open'.Pipe p) = tt
 holds_sound (open'.Classic a) = tt
 holds_sound (open'.Wrapped a) = tt
 holds_sound (open'.Bus b) = b.value.1
+holds_sound (open'.Narrow b) = b.value.1
 
-pub bus_held : (b : Box Branch Global) → IsSound (Bus b) → IsSoundBranch b.value
-bus_held b h =
-    let r = every_held-Node sound_node alone_branch (λ _. Unit {0}) (Bus b) h in
-    subst HoldsSound (r.1 ∙ outs-Bus b) (holds_sound r.0)
+pub holds : (n : Node) → IsSound n → HoldsSound (out-Node n)
+holds n h =
+    let r = every_held-Node sound_node IsSoundInside (λ _. Unit {0}) n h in
+    subst HoldsSound r.1 (holds_sound r.0)
+
+pub sound_layer : (n : Node) → IsSound n → sound_node (out-Node n)
+sound_layer n h = every_here-Node sound_node IsSoundInside (λ _. Unit {0}) n h
 
 -- A device behind its classic port.
 pub classic_held : (n : Node) (a : FromClassic Held) → n ≡ Classic a → IsSound n → held_sound a
-classic_held n a e h = subst sound_node (ap out-Node e ∙ outs-Classic a) (every_here-Node sound_node alone_branch (λ _. Unit {0}) n h)
+classic_held n a e h = subst sound_node (ap out-Node e ∙ outs-Classic a) (sound_layer n h)
 
 pub wrapped_held : (n : Node) (a : FromClassic (ToClassic Piped)) → n ≡ Wrapped a → IsSound n → wrapped_sound a
-wrapped_held n a e h = subst sound_node (ap out-Node e ∙ outs-Wrapped a) (every_here-Node sound_node alone_branch (λ _. Unit {0}) n h)
+wrapped_held n a e h = subst sound_node (ap out-Node e ∙ outs-Wrapped a) (sound_layer n h)
 
 pub classic_made : (a : FromClassic Held) → held_sound a → IsSound (Classic a)
-classic_made a h = subst IsSound (rolls-Classic a) (every_made-Node sound_node alone_branch (λ _. Unit {0}) (open'.Classic a) (open'.Classic a) refl h)
+classic_made a h = subst IsSound (rolls-Classic a) (every_made-Node sound_node IsSoundInside (λ _. Unit {0}) (open'.Classic a) (open'.Classic a) refl h)
 
 pub wrapped_made : (a : FromClassic (ToClassic Piped)) → wrapped_sound a → IsSound (Wrapped a)
-wrapped_made a h = subst IsSound (rolls-Wrapped a) (every_made-Node sound_node alone_branch (λ _. Unit {0}) (open'.Wrapped a) (open'.Wrapped a) refl h)
+wrapped_made a h = subst IsSound (rolls-Wrapped a) (every_made-Node sound_node IsSoundInside (λ _. Unit {0}) (open'.Wrapped a) (open'.Wrapped a) refl h)
 
 -- A node that is a bus.
 pub as_bus : (n : Node) (box : Box Branch Global) (v : Branch) → n ≡ Bus box → v ≡ box.value → node_slave n ≡ branch_slave v
 as_bus n box v e f = ap node_slave e ∙ node_slave-Bus box ∙ ap branch_slave (sym f)
 
 pub bus_is_sound : (n : Node) (box : Box Branch Global) (v : Branch) → n ≡ Bus box → v ≡ box.value → IsSound n → IsSoundBranch v
-bus_is_sound n box v e f h = subst IsSoundBranch (sym f) (bus_held box (subst IsSound e h))
+bus_is_sound n box v e f h = subst IsSoundBranch (sym f) (subst HoldsSound (ap out-Node e ∙ outs-Bus box) (holds n h))
+
+pub as_narrow : (n : Node) (box : Box Branch Global) (v : Branch) → n ≡ Narrow box → v ≡ box.value → node_slave n ≡ narrow_branch v
+as_narrow n box v e f = ap node_slave e ∙ node_slave-Narrow box ∙ ap narrow_branch (sym f)
+
+pub narrow_is_sound : (n : Node) (box : Box Branch Global) (v : Branch) → n ≡ Narrow box → v ≡ box.value → IsSound n → IsSoundBranch v
+narrow_is_sound n box v e f h = subst IsSoundBranch (sym f) (subst HoldsSound (ap out-Node e ∙ outs-Narrow box) (holds n h))
+
+pub narrow_is : (n : Node) (box : Box Branch Global) (v : Branch) → n ≡ Narrow box → v ≡ box.value → IsSound n → IsNarrow v
+narrow_is n box v e f h = subst IsNarrow (sym f) (subst sound_node (ap out-Node e ∙ outs-Narrow box) (sound_layer n h))
+
+-- ---- a node owes at most 16 answers
+
+few_from : (k : ℕ) (line : List (Option Answer)) → length (owed_from k line) ≤ length line
+few_from k [] = omega arith
+few_from k (None ∷ line) = omega (arith, few_from (k + 1) line)
+few_from k (Some answer ∷ line) = omega (arith, few_from (k + 1) line)
+
+few_piped : (p : Piped) → length (piped_slave p).owed ≤ 16
+few_piped p = omega (arith, few_from 0 (drop (15 - p.wait) p.line), length-drop (15 - p.wait) p.line, p.whole)
+
+few_behind : (s : ClassicSlave) (waiting : Option Request) (ready : Option Answer) → length (behind s waiting ready).owed ≤ 16
+few_behind s waiting (Some answer) = omega arith
+few_behind s None None = omega arith
+few_behind s (Some r) None = omega arith
+
+few_inside : (b : Branch) → IsSoundBranch b → length (branch_slave b).owed ≤ 16
+few_inside b h = rw (inside_of-out b) (sound_here b h).few
+
+few_layer : (x : Node-F Node Branch TreePart) → HoldsSound x → length (node_layer (map-Node Node Branch TreePart Slave Inside Part node_slave inside_of part_slave x)).owed ≤ 16
+few_layer (open'.Pipe p) h = few_piped p
+few_layer (open'.Classic a) h = few_behind (held_leaf a.inner.device a.inner.wait a.inner.standing) a.waiting a.ready
+few_layer (open'.Wrapped a) h = few_behind (through (piped_slave a.inner.inner) a.inner.standing) a.waiting a.ready
+few_layer (open'.Bus b) h = few_inside b.value h
+few_layer (open'.Narrow b) h = omega (arith, few_inside b.value h, length-back (inside_of b.value).uppers (branch_slave b.value).owed)
+
+few_node : (n : Node) → IsSound n → length (node_slave n).owed ≤ 16
+few_node n h = rw (fold_out-Node Slave Inside Part node_layer branch_layer part_layer n) (few_layer (out-Node n) (holds n h))
+
+few_part : (p : TreePart) → IsSoundPart p → length (part_slave p).slave.owed ≤ 16
+few_part p h = rw (part_slave-out p) (few_node (out-Part p).node (part_held p h))
+
+few_top : (parts : List Part) (k : ℕ) (b : Bool) → length (part_at parts k).slave.owed ≤ 16 → length (owed_by parts (top_if b k)) ≤ 16
+few_top parts k true h = omega (arith, h, length-map (part_at parts k).slave.owed (farther_owed (places_before k parts)))
+few_top parts k false h = omega arith
+
+few_miss : (parts : List Part) (op : Option Request) → length (owed_by parts (miss_if op)) ≤ 16
+few_miss parts None = omega arith
+few_miss parts (Some r) = omega arith
 
 -- ---- lists of children
 
@@ -234,16 +312,24 @@ part_ticks p op given_op node i e =
 
 -- ---- a bus
 
+pub keeps_roll : (b : Branch) (x : Branch-F Node Branch TreePart) → x.width ≡ branch_width b → map child_of (map part_slave x.parts.items) ≡ branch_children b → x.uppers ≡ (out-Branch b).uppers
+    → Keeps b (roll-Branch x)
+keeps_roll b x w c u = record {
+  width = ap (λ (y : Branch-F Node Branch TreePart). y.width) (out-roll-Branch x) ∙ w;
+  children = ap (λ (y : Branch-F Node Branch TreePart). map child_of (map part_slave y.parts.items)) (out-roll-Branch x) ∙ c;
+  uppers = ap (λ (y : Branch-F Node Branch TreePart). y.uppers) (out-roll-Branch x) ∙ u;
+}
+
 module _ (b : Branch) (s : IsSoundBranch b) where
   alone : OwesAlone (branch_width b) (branch_parts b) (branch_debtor b)
-  alone = sound_here b s
+  alone = (sound_here b s).alone
 
   pub count : length (branch_parts b) ≡ length (out-Branch b).parts.items
   count = length-map (out-Branch b).parts.items part_slave
 
   -- whether it owes anything
   pub owes_any : not (is_nobody (branch_debtor b)) ≡ owes (branch_slave b).owed
-  owes_any = rw (branch_slave-out b) (sym (owes-alone (branch_parts b) (branch_debtor b) alone.owing))
+  owes_any = rw (inside_of-out b) (sym (owes-alone (branch_parts b) (branch_debtor b) alone.owing))
 
   not_nobody : (d : Debtor) → d ≢ Nobody → true ≡ not (is_nobody d)
   not_nobody Nobody n = absurd (n refl)
@@ -262,17 +348,17 @@ module _ (b : Branch) (s : IsSoundBranch b) where
     stalls_here = is_stalled (branch_slave b).wiring (branch_slave b).owed r
 
     pub stalls_nobody : branch_debtor b ≡ Nobody → false ≡ stalls_here
-    stalls_nobody e = rw (branch_slave-out b, e) (stalls-nobody (branch_width b) (branch_parts b) alone.fits r)
+    stalls_nobody e = rw (inside_of-out b, e) (stalls-nobody (branch_width b) (branch_parts b) alone.fits r)
 
     pub stalls_miss : branch_debtor b ≡ Miss → nat_lt to (length (out-Branch b).parts.items) ≡ stalls_here
-    stalls_miss e = rw (branch_slave-out b, e, ← count) (stalls-miss (branch_width b) (branch_parts b) alone.fits r to at fits_bus)
+    stalls_miss e = rw (inside_of-out b, e, ← count) (stalls-miss (branch_width b) (branch_parts b) alone.fits r to at fits_bus)
 
     module _ (k : ℕ) (e : branch_debtor b ≡ Top k) where
       pub k_within : k < length (out-Branch b).parts.items
       k_within = omega (arith, (alone.owing k e).0, count)
 
       pub stalls_elsewhere : to ≢ k → true ≡ stalls_here
-      stalls_elsewhere n = rw (branch_slave-out b, e) (let o = alone.owing k e in stalls-elsewhere (branch_width b) (branch_parts b) alone.fits r to k at fits_bus n o.0 o.1)
+      stalls_elsewhere n = rw (inside_of-out b, e) (let o = alone.owing k e in stalls-elsewhere (branch_width b) (branch_parts b) alone.fits r to k at fits_bus n o.0 o.1)
 
       module _ (same : to ≡ k) (d : TreePart) (v : d ≡ get_or (out-Branch b).parts.items k d) where
         lent : part_slave d ≡ part_at (branch_parts b) k
@@ -291,7 +377,7 @@ module _ (b : Branch) (s : IsSoundBranch b) where
         asked_takes = rw lent (taken (branch_width b) (branch_parts b) alone.fits r k here (alone.owing k e).0 fits_bus)
 
         pub asked_stalls : is_stalled (part_slave d).slave.wiring (part_slave d).slave.owed (inside (child_of (part_slave d)) r) ≡ stalls_here
-        asked_stalls = rw (branch_slave-out b, e, lent) (stalls-here (branch_width b) (branch_parts b) alone.fits r k here (alone.owing k e).0 fits_bus)
+        asked_stalls = rw (inside_of-out b, e, lent) (stalls-here (branch_width b) (branch_parts b) alone.fits r k here (alone.owing k e).0 fits_bus)
 
   -- a clock
   module _ (op : Option Request) (t : ForSome op (λ r. (branch_slave b).wiring.accepts r ≡ true)) (u : ForSome op (λ r. is_stalled (branch_slave b).wiring (branch_slave b).owed r ≡ false))
@@ -325,11 +411,14 @@ module _ (b : Branch) (s : IsSoundBranch b) where
     pub clock_alone : OwesAlone (branch_width b) now (debtor_after now k op)
     clock_alone = alone_now (branch_width b) (branch_parts b) (branch_debtor b) k op alone.fits focus alone.owing aims alone.quiet
 
+    children_are : map child_of now ≡ branch_children b
+    children_are = children_now (branch_width b) (branch_parts b) (branch_debtor b) k op alone.fits focus alone.owing aims
+
     pub answer_top : k < length (out-Branch b).parts.items → given (part_at (branch_parts b) k).slave.owed ≡ given (branch_slave b).owed
-    answer_top l = rw (branch_slave-out b) (given-Top (branch_parts b) (branch_debtor b) k focus (omega (arith, l, count)))
+    answer_top l = rw (inside_of-out b) (given-Top (branch_parts b) (branch_debtor b) k focus (omega (arith, l, count)))
 
     pub answer_miss : length (out-Branch b).parts.items ≤ k → missed_answer (branch_debtor b) ≡ given (branch_slave b).owed
-    answer_miss l = rw (branch_slave-out b) (given-missed (branch_parts b) (branch_debtor b) k focus (omega (arith, l, count)) (λ j e. (alone.owing j e).0))
+    answer_miss l = rw (inside_of-out b) (given-missed (branch_parts b) (branch_debtor b) k focus (omega (arith, l, count)) (λ j e. (alone.owing j e).0))
 
     count_now : length now ≡ length (out-Branch b).parts.items
     count_now = length-set (branch_parts b) k (part_ticked (part_at (branch_parts b) k) op) ∙ count
@@ -350,10 +439,10 @@ module _ (b : Branch) (s : IsSoundBranch b) where
 
       module _ (new : TreePart) (after : part_slave new ≡ part_ticked (part_slave d) op) (n : IsSoundPart new) where
         abbrev pub half : Branch
-        half = roll-Branch (record { width = (out-Branch b).width; parts = with_item (out-Branch b).parts k new; debtor = (out-Branch b).debtor })
+        half = roll-Branch (record { width = (out-Branch b).width; parts = with_item (out-Branch b).parts k new; debtor = (out-Branch b).debtor; uppers = (out-Branch b).uppers })
 
-        half_out : out-Branch half ≡ record { width = (out-Branch b).width; parts = with_item (out-Branch b).parts k new; debtor = (out-Branch b).debtor }
-        half_out = out-roll-Branch (record { width = (out-Branch b).width; parts = with_item (out-Branch b).parts k new; debtor = (out-Branch b).debtor })
+        half_out : out-Branch half ≡ record { width = (out-Branch b).width; parts = with_item (out-Branch b).parts k new; debtor = (out-Branch b).debtor; uppers = (out-Branch b).uppers }
+        half_out = out-roll-Branch (record { width = (out-Branch b).width; parts = with_item (out-Branch b).parts k new; debtor = (out-Branch b).debtor; uppers = (out-Branch b).uppers })
 
         pub half_items : (out-Branch half).parts.items ≡ set (out-Branch b).parts.items k new
         half_items = ap (λ (x : Branch-F Node Branch TreePart). x.parts.items) half_out
@@ -366,9 +455,15 @@ module _ (b : Branch) (s : IsSoundBranch b) where
             map-set part_slave (out-Branch b).parts.items k new
             ∙ ap (set (branch_parts b) k) (after ∙ ap (λ p. part_ticked p op) lent_here)
 
+        own_new : part_at (map part_slave (out-Branch half).parts.items) k ≡ part_slave new
+        own_new =
+            let items = (out-Branch b).parts.items in
+            ap (λ parts. part_at (map part_slave parts) k) half_items
+            ∙ part_at-get (set items k new) k d (omega (arith, l, length-set items k new)) ∙ ap part_slave (get_or-set_same items k new d l)
+
         module _ (debtor : Debtor) (m : debtor ≡ top_if (owes (part_at (map part_slave (out-Branch half).parts.items) k).slave.owed) k) where
           abbrev pub ticked_branch : Branch
-          ticked_branch = roll-Branch (record { width = (out-Branch half).width; parts = (out-Branch half).parts; debtor = debtor })
+          ticked_branch = roll-Branch (record { width = (out-Branch half).width; parts = (out-Branch half).parts; debtor = debtor; uppers = (out-Branch half).uppers })
 
           debtor_is : debtor ≡ debtor_after now k op
           debtor_is =
@@ -379,16 +474,24 @@ module _ (b : Branch) (s : IsSoundBranch b) where
           pub ticked_after : branch_slave ticked_branch ≡ ticked (branch_slave b) op
           ticked_after =
               clock_slave ticked_branch
-              (branch_slave-roll (record { width = (out-Branch half).width; parts = (out-Branch half).parts; debtor = debtor }) ∙ rw (half_out, parts_are, debtor_is) refl)
+              (branch_slave-roll (record { width = (out-Branch half).width; parts = (out-Branch half).parts; debtor = debtor; uppers = (out-Branch half).uppers }) ∙ rw (half_out, parts_are, debtor_is) refl)
 
           pub ticked_sound : IsSoundBranch ticked_branch
           ticked_sound =
-              sound_made (record { width = (out-Branch half).width; parts = (out-Branch half).parts; debtor = debtor }) half_sound (rw (half_out, parts_are, debtor_is) clock_alone)
+              sound_made (record { width = (out-Branch half).width; parts = (out-Branch half).parts; debtor = debtor; uppers = (out-Branch half).uppers }) half_sound
+              (record { alone = rw (half_out, parts_are, debtor_is) clock_alone; few = rw m (few_top _ k _ (rw own_new (few_part new n))) })
+
+          pub ticked_keeps : Keeps b ticked_branch
+          ticked_keeps =
+              keeps_roll b (record { width = (out-Branch half).width; parts = (out-Branch half).parts; debtor = debtor; uppers = (out-Branch half).uppers })
+              (ap (λ (x : Branch-F Node Branch TreePart). x.width) half_out)
+              (ap (λ parts. map child_of (map part_slave parts)) half_items ∙ ap (map child_of) parts_are ∙ children_are)
+              (ap (λ (x : Branch-F Node Branch TreePart). x.uppers) half_out)
 
     -- where none does
     module _ (l : length (out-Branch b).parts.items ≤ k) (debtor : Debtor) (m : debtor ≡ miss_if op) where
       abbrev pub passed_branch : Branch
-      passed_branch = roll-Branch (record { width = (out-Branch b).width; parts = (out-Branch b).parts; debtor = debtor })
+      passed_branch = roll-Branch (record { width = (out-Branch b).width; parts = (out-Branch b).parts; debtor = debtor; uppers = (out-Branch b).uppers })
 
       now_is : now ≡ branch_parts b
       now_is = set-past (branch_parts b) k (part_ticked (part_at (branch_parts b) k) op) (omega (arith, l, count))
@@ -399,14 +502,20 @@ module _ (b : Branch) (s : IsSoundBranch b) where
       pub passed_after : branch_slave passed_branch ≡ ticked (branch_slave b) op
       passed_after =
           clock_slave passed_branch
-          (branch_slave-roll (record { width = (out-Branch b).width; parts = (out-Branch b).parts; debtor = debtor })
+          (branch_slave-roll (record { width = (out-Branch b).width; parts = (out-Branch b).parts; debtor = debtor; uppers = (out-Branch b).uppers })
           ∙ ap (λ debtor. bus_slave (branch_width b) (branch_parts b) debtor) missed_is
           ∙ ap (λ parts. bus_slave (branch_width b) parts (debtor_after now k op)) (sym now_is))
 
       pub passed_sound : IsSoundBranch passed_branch
       passed_sound =
-          sound_made (record { width = (out-Branch b).width; parts = (out-Branch b).parts; debtor = debtor }) (sound_held b s)
-          (subst (OwesAlone (branch_width b) (branch_parts b)) (sym missed_is) (subst (λ parts. OwesAlone (branch_width b) parts (debtor_after now k op)) now_is clock_alone))
+          sound_made (record { width = (out-Branch b).width; parts = (out-Branch b).parts; debtor = debtor; uppers = (out-Branch b).uppers }) (sound_held b s)
+          (record {
+            alone = subst (OwesAlone (branch_width b) (branch_parts b)) (sym missed_is) (subst (λ parts. OwesAlone (branch_width b) parts (debtor_after now k op)) now_is clock_alone);
+            few = rw m (few_miss (branch_parts b) op);
+          })
+
+      pub passed_keeps : Keeps b passed_branch
+      passed_keeps = keeps_roll b (record { width = (out-Branch b).width; parts = (out-Branch b).parts; debtor = debtor; uppers = (out-Branch b).uppers }) refl refl refl
 
 -- ---- a new bus
 
@@ -415,11 +524,22 @@ quiet_at [] k h = refl
 quiet_at (p ∷ parts) zero h = h.0
 quiet_at (p ∷ parts) (suc k) h = quiet_at parts k h.1
 
-pub new_sound : (width : Width) (parts : Vec TreePart Global) → AllSound parts.items → AllFitIn width (map part_slave parts.items) → AllQuiet (map part_slave parts.items)
-    → IsSoundBranch (roll-Branch (record { width = width; parts = parts; debtor = Nobody }))
-new_sound width parts s f q =
-    sound_made (record { width = width; parts = parts; debtor = Nobody }) s
-    (record { fits = f; owing = λ k e. absurd (cc); quiet = λ k l n. quiet_at (map part_slave parts.items) k q })
+module _ (width : Width) (parts : Vec TreePart Global) (uppers : Buffer Bool) where
+  abbrev new_layer : Branch-F Node Branch TreePart
+  new_layer = record { width = width; parts = parts; debtor = Nobody; uppers = uppers }
+
+  pub new_sound : AllSound parts.items → AllFitIn width (map part_slave parts.items) → AllQuiet (map part_slave parts.items) → IsSoundBranch (roll-Branch new_layer)
+  new_sound s f q =
+      sound_made new_layer s
+      (record { alone = record { fits = f; owing = λ k e. absurd (cc); quiet = λ k l n. quiet_at (map part_slave parts.items) k q }; few = omega arith })
+
+  pub new_is : (room : ℕ) → uppers ≡ buffer [] room → IsNew width (map part_slave parts.items) room (roll-Branch new_layer)
+  new_is room u = record {
+    is_width = ap (λ (x : Branch-F Node Branch TreePart). x.width) (out-roll-Branch new_layer);
+    is_parts = ap (λ (x : Branch-F Node Branch TreePart). map part_slave x.parts.items) (out-roll-Branch new_layer);
+    debtor = ap (λ (x : Branch-F Node Branch TreePart). x.debtor) (out-roll-Branch new_layer);
+    uppers = ap (λ (x : Branch-F Node Branch TreePart). x.uppers) (out-roll-Branch new_layer) ∙ u;
+  }
 
 pub node_slave-Wrapped : (a : FromClassic (ToClassic Piped)) → node_slave (Wrapped a) ≡ wrapped_slave a
-node_slave-Wrapped a = ap node_slave (sym (rolls-Wrapped a)) ∙ fold-roll-Node Slave Slave Part node_layer branch_layer part_layer (open'.Wrapped a)
+node_slave-Wrapped a = ap node_slave (sym (rolls-Wrapped a)) ∙ fold-roll-Node Slave Inside Part node_layer branch_layer part_layer (open'.Wrapped a)

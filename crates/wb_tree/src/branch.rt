@@ -1,13 +1,14 @@
-ghost use Rattle.std.specs.Prelude.{◌≡◌, ◌<◌, ℕ, true, false, map, length};
+ghost use Rattle.std.specs.Prelude.{◌≡◌, ◌<◌, true, false, map, length, IfOk};
 ghost use Rattle.std.specs.Option.{ForSome};
 ghost use Rattle.wb_signals.specs.Slave.{given, ticked, is_stalled, owes};
 ghost use Rattle.wb_signals.specs.Parts.{child_at, child_of, part_at, AllFitIn, AllQuiet};
-ghost use Rattle.wb_signals.specs.Turn.{bus_slave, aim_of, goes, top_if};
-ghost use Rattle.wb_signals.specs.declared.debtor.Debtor.TheVariants.{Nobody};
-ghost use Rattle.wb_tree.specs.Tree.{branch_slave, part_slave, IsSoundBranch, AllSound, branch_parts, branch_debtor};
+ghost use Rattle.wb_signals.specs.Turn.{aim_of, goes, top_if};
+ghost use Rattle.wb_tree.specs.Tree.{branch_slave, part_slave, IsSoundBranch, AllSound, IsNew, Keeps, branch_parts, branch_debtor};
 
 use crate::Part;
-use eb_base::Width;
+use circular_buffer::HeapCircularBuffer;
+use eb_base::{NoMemory, Width};
+use std::alloc::Global;
 use wb_signals::{Answer, Debtor, Op};
 
 /// The inside of a bus.
@@ -16,23 +17,31 @@ use wb_signals::{Answer, Debtor, Op};
 pub struct Branch {
     width: Width,
     parts: Vec<Part>,
-    debtor: Debtor,
+    pub(crate) debtor: Debtor,
+    pub(crate) uppers: HeapCircularBuffer<bool>, // of the answers owed behind a port of 64 data bits
 }
 
 impl Branch {
-    /// A bus of this width with these children, which owe nothing.
-    pub(crate) fn new(parts: Vec<Part>, width: Width) -> Branch
+    /// A bus of this width with these children, which owe nothing, and room to keep the halves of so many answers.
+    pub(crate) fn new(
+        alloc: Global,
+        parts: Vec<Part>,
+        width: Width,
+        room: usize,
+    ) -> Result<Branch, NoMemory>
         requires sound { AllSound parts.items }
         requires fits { AllFitIn width (map part_slave parts.items) }
         requires quiet { AllQuiet (map part_slave parts.items) }
-        ensures slave { branch_slave result ≡ bus_slave width (map part_slave parts.items) Nobody }
-        ensures sound { IsSoundBranch result }
+        ensures new { IfOk result (IsNew width (map part_slave parts.items) room) }
+        ensures sound { IfOk result IsSoundBranch }
     {
-        Branch {
+        let uppers = HeapCircularBuffer::with_capacity(alloc, room)?;
+        Ok(Branch {
             width,
             parts,
             debtor: Debtor::Nobody,
-        }
+            uppers,
+        })
     }
 
     #[cycle(stalled)]
@@ -74,6 +83,7 @@ impl Branch {
         requires unstalled { ForSome op (λ r. is_stalled (branch_slave self.old).wiring (branch_slave self.old).owed r ≡ false) }
         ensures answer { result ≡ given (branch_slave self.old).owed }
         ensures after { branch_slave self.new ≡ ticked (branch_slave self.old) op }
+        ensures kept { Keeps self.old self.new }
         ensures sound { IsSoundBranch self.new }
     {
         let k = self.goes(&op);
@@ -96,6 +106,7 @@ impl Branch {
         requires goes { k ≡ goes (length (branch_parts self.old)) (branch_debtor self.old) (aim_of (map child_of (branch_parts self.old)) op) op }
         ensures answer { result ≡ given (branch_slave self.old).owed }
         ensures after { branch_slave self.new ≡ ticked (branch_slave self.old) op }
+        ensures kept { Keeps self.old self.new }
         ensures sound { IsSoundBranch self.new }
     {
         if k < self.parts.len() {

@@ -3,6 +3,8 @@
 #![tactic(auto)]
 
 mod branch;
+mod half;
+mod narrow;
 mod node;
 mod part;
 

@@ -1,6 +1,8 @@
-ghost use Rattle.std.specs.Prelude.{◌≡◌, ◌≤◌, ◌+◌, true, false, map, IfOk};
-ghost use Rattle.wb_signals.specs.Parts.{AllFitIn, AllQuiet};
+ghost use Rattle.std.specs.Prelude.{◌≡◌, ◌≤◌, ◌+◌, true, false, [], map, IfOk};
+ghost use Rattle.eb_base.specs.declared.width.Width.TheVariants.{W32};
+ghost use Rattle.wb_signals.specs.Parts.{child_of, AllFitIn, AllQuiet};
 ghost use Rattle.wb_signals.specs.Turn.{bus_slave};
+ghost use Rattle.wb_signals.specs.Narrow.{AllOf32, narrow_slave};
 ghost use Rattle.wb_signals.specs.declared.debtor.Debtor.TheVariants.{Nobody};
 ghost use Rattle.wb_tree.specs.Leaves.{leaf_slave};
 ghost use Rattle.wb_tree.specs.Tree.{node_slave, part_slave, IsSound, AllSound};
@@ -20,6 +22,7 @@ pub enum Node {
     Classic(FromClassic<Held>),
     Wrapped(FromClassic<ToClassic<Piped>>),
     Bus(Box<Branch>),
+    Narrow(Box<Branch>),
 }
 
 impl Clocked for Node {
@@ -36,6 +39,7 @@ impl Clocked for Node {
             Node::Classic(slave) => slave.stalled(op),
             Node::Wrapped(slave) => slave.stalled(op),
             Node::Bus(branch) => branch.stalled(op),
+            Node::Narrow(branch) => branch.narrow_stalled(op),
         }
     }
 
@@ -45,6 +49,7 @@ impl Clocked for Node {
             Node::Classic(slave) => slave.owes(),
             Node::Wrapped(slave) => slave.owes(),
             Node::Bus(branch) => branch.owes(),
+            Node::Narrow(branch) => branch.owes(),
         }
     }
 
@@ -55,6 +60,7 @@ impl Clocked for Node {
             Node::Classic(slave) => slave.tick(op),
             Node::Wrapped(slave) => slave.tick(op),
             Node::Bus(branch) => branch.tick(op),
+            Node::Narrow(branch) => branch.narrow_tick(op),
         }
     }
 }
@@ -95,7 +101,20 @@ impl Node {
         ensures slave { IfOk result (λ n. node_slave n ≡ bus_slave bus (map part_slave parts.items) Nobody) }
         ensures sound { IfOk result IsSound }
     {
-        let branch = Branch::new(parts, bus);
+        let branch = Branch::new(alloc, parts, bus, 0)?;
         Ok(Node::Bus(Box::new(alloc, branch)?))
+    }
+
+    /// A bus of 32 data bits with these children, which owe nothing, behind a port of 64.
+    pub fn narrow(alloc: Global, parts: Vec<Part>) -> Result<Node, NoMemory>
+        requires sound { AllSound parts.items }
+        requires fits { AllFitIn W32 (map part_slave parts.items) }
+        requires of { AllOf32 (map child_of (map part_slave parts.items)) }
+        requires quiet { AllQuiet (map part_slave parts.items) }
+        ensures slave { IfOk result (λ n. node_slave n ≡ narrow_slave (map part_slave parts.items) Nobody []) }
+        ensures sound { IfOk result IsSound }
+    {
+        let branch = Branch::new(alloc, parts, Width::W32, 16)?;
+        Ok(Node::Narrow(Box::new(alloc, branch)?))
     }
 }

@@ -1,5 +1,5 @@
 -- By who owes answers.
-use Rattle.std.proofs.Common.{rules, ◌≡◌, ap, ◌∙◌, subst, length, arith, map, true}
+use Rattle.std.proofs.Common.{rules, ◌≡◌, ap, sym, ◌∙◌, subst, length, arith, map, true}
 use Rattle.wb_signals.specs.Request.{Request, less}
 use Rattle.wb_signals.specs.Slave.{Slave}
 use Rattle.wb_signals.specs.Parts.{child_at, child_of}
@@ -7,6 +7,7 @@ use Rattle.wb_tree.specs.declared.node.Node.TheViews.{out-Branch}
 use Rattle.wb_tree.specs.declared.node.Node.TheFolds.{the_lemmas}
 use Rattle.wb_tree.specs.Tree.{part_slave, branch_parts}
 use Rattle.wb_tree.proofs.Trees
+use Rattle.wb_tree.proofs.NarrowTrees
 use Rattle.wb_tree.proofs.+stalled.Goals as goal
 
 pub branch::Branch::stalled-index-part-requires : goal.branch::Branch::stalled-index-part-requires
@@ -71,3 +72,38 @@ pub part::Part::stalled-stalled-requires : goal.part::Part::stalled-stalled-requ
 part::Part::stalled-stalled-requires t c =
     let p = c.args.self.now in
     (search (rules, the_lemmas), (Trees.part_held p c.requires.sound, Trees.node_asked p c.args.op.now _ (ap (less p.first) c.op.view_is) c.requires.taken))
+
+pub branch::Branch::narrow_stalled-one_half-requires-clause-word : goal.branch::Branch::narrow_stalled-one_half-requires-clause-word
+branch::Branch::narrow_stalled-one_half-requires-clause-word t c = NarrowTrees.is_word c.args.self.now c.requires.sound c.requires.narrow c.args.op.now c.requires.taken
+
+pub branch::Branch::narrow_stalled-one_half-requires-clause-lanes : goal.branch::Branch::narrow_stalled-one_half-requires-clause-lanes
+branch::Branch::narrow_stalled-one_half-requires-clause-lanes t c = NarrowTrees.has_lanes c.args.self.now c.requires.sound c.requires.narrow c.args.op.now c.requires.taken
+
+pub branch::Branch::narrow_stalled-stalled-requires : goal.branch::Branch::narrow_stalled-stalled-requires
+branch::Branch::narrow_stalled-stalled-requires t c =
+    let q = c.requires in
+    (search (rules, the_lemmas), (q.sound, NarrowTrees.one_taken c.args.self.now q.sound q.narrow c.args.op.now q.taken c.in-Some.op (sym c.one_half.ensures.half ∙ c.in-Some.is)))
+
+pub branch::Branch::narrow_stalled-returns-in-Some : goal.branch::Branch::narrow_stalled-returns-in-Some
+branch::Branch::narrow_stalled-returns-in-Some t c =
+    let q = c.requires in
+    record { stalled = c.stalled.ensures.stalled ∙ NarrowTrees.one_stalls c.args.self.now q.sound q.narrow c.args.op.now q.taken c.in-Some.op (sym c.one_half.ensures.half ∙ c.in-Some.is) }
+
+pub branch::Branch::narrow_stalled-returns-in-None : goal.branch::Branch::narrow_stalled-returns-in-None
+branch::Branch::narrow_stalled-returns-in-None t c =
+    let q = c.requires in
+    record { stalled = c.lost_stalled.ensures.stalled ∙ NarrowTrees.both_stalls c.args.self.now q.sound q.narrow c.args.op.now q.taken (sym c.one_half.ensures.half ∙ c.in-None.is) }
+
+pub node::NodeClocked::stalled-narrow_stalled-requires : goal.node::NodeClocked::stalled-narrow_stalled-requires
+node::NodeClocked::stalled-narrow_stalled-requires t c =
+    let n = c.args.self.now in
+    let v = c.deref-in-Narrow.result.now in (
+      search (rules, the_lemmas),
+      (
+        Trees.narrow_is_sound n c.in-Narrow.branch v c.in-Narrow.is c.deref-in-Narrow.ensures c.requires.sound,
+        (
+          Trees.narrow_is n c.in-Narrow.branch v c.in-Narrow.is c.deref-in-Narrow.ensures c.requires.sound,
+          subst (λ (s : Slave). s.wiring.accepts c.args.op.now ≡ true) (Trees.as_narrow n c.in-Narrow.branch v c.in-Narrow.is c.deref-in-Narrow.ensures) c.requires.taken,
+        ),
+      ),
+    )

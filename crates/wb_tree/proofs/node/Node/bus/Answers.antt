@@ -8,4 +8,4 @@ pub returns-clause-sound : goal.returns-clause-sound
 returns-clause-sound c =
     let e = c.in_ok-new.ensures in
     let ok = e.ok in
-    bus_sound c.in_ok-new.field-0 (subst IsSoundBranch (sym ok) c.new-branch.ensures.sound)
+    bus_sound c.in_ok-new.field-0 (subst IsSoundBranch (sym ok) c.in_ok-branch.ensures.sound)
