@@ -3,7 +3,7 @@ ghost use Rattle.std.specs.Option.{ForSome};
 ghost use Rattle.wb_signals.specs.Slave.{given, ticked, is_stalled, owes};
 ghost use Rattle.wb_signals.specs.Parts.{child_at, child_of, part_at, AllFitIn, AllQuiet};
 ghost use Rattle.wb_signals.specs.Turn.{aim_of, goes, top_if};
-ghost use Rattle.wb_tree.specs.Tree.{branch_slave, part_slave, IsSoundBranch, AllSound, IsNew, Keeps, branch_parts, branch_debtor};
+ghost use Rattle.wb_tree.specs.Tree.{branch_slave, part_slave, IsSoundBranch, AllSound, IsNew, Keeps, branch_parts, branch_debtor, branch_children};
 
 use crate::Part;
 use circular_buffer::HeapCircularBuffer;
@@ -80,7 +80,8 @@ impl Branch {
     pub(crate) fn tick(&mut self, op: Option<Op>) -> Option<Answer>
         requires sound { IsSoundBranch self.old }
         requires taken { ForSome op (λ r. (branch_slave self.old).wiring.accepts r ≡ true) }
-        requires unstalled { ForSome op (λ r. is_stalled (branch_slave self.old).wiring (branch_slave self.old).owed r ≡ false) }
+        requires unstalled { ForSome op (λ r.
+            is_stalled (branch_slave self.old).wiring (branch_slave self.old).owed r ≡ false) }
         ensures answer { result ≡ given (branch_slave self.old).owed }
         ensures after { branch_slave self.new ≡ ticked (branch_slave self.old) op }
         ensures kept { Keeps self.old self.new }
@@ -92,7 +93,8 @@ impl Branch {
 
     /// The child that ticks: where the operation goes, or who owes answers.
     fn goes(&self, op: &Option<Op>) -> usize
-        ensures goes { result ≡ goes (length (branch_parts self.now)) (branch_debtor self.now) (aim_of (map child_of (branch_parts self.now)) op.now) op.now }
+        ensures goes { result ≡
+            goes (length (branch_parts self.now)) (branch_debtor self.now) (aim_of (branch_children self.now) op.now) op.now }
     {
         let to = aim(&self.parts, op);
         self.debtor.goes(self.parts.len(), to, op)
@@ -102,8 +104,10 @@ impl Branch {
     fn tick_at(&mut self, k: usize, op: Option<Op>) -> Option<Answer>
         requires sound { IsSoundBranch self.old }
         requires taken { ForSome op (λ r. (branch_slave self.old).wiring.accepts r ≡ true) }
-        requires unstalled { ForSome op (λ r. is_stalled (branch_slave self.old).wiring (branch_slave self.old).owed r ≡ false) }
-        requires goes { k ≡ goes (length (branch_parts self.old)) (branch_debtor self.old) (aim_of (map child_of (branch_parts self.old)) op) op }
+        requires unstalled { ForSome op (λ r.
+            is_stalled (branch_slave self.old).wiring (branch_slave self.old).owed r ≡ false) }
+        requires goes { k ≡
+            goes (length (branch_parts self.old)) (branch_debtor self.old) (aim_of (branch_children self.old) op) op }
         ensures answer { result ≡ given (branch_slave self.old).owed }
         ensures after { branch_slave self.new ≡ ticked (branch_slave self.old) op }
         ensures kept { Keeps self.old self.new }

@@ -3,7 +3,7 @@ ghost use Rattle.std.specs.Option.{ForSome};
 ghost use Rattle.circular_buffer.specs.Buffer.{buffer};
 ghost use Rattle.wb_signals.specs.Wiring.{lifted};
 ghost use Rattle.wb_signals.specs.Bus.{Upper, Lower, half_of, half};
-ghost use Rattle.wb_signals.specs.Narrow.{IsShort, is_upper, one_half, answer_back, uppers_left, uppers_with, uppers_after};
+ghost use Rattle.wb_signals.specs.Narrow.{IsShort, one_half, answer_back, uppers_left, uppers_with, uppers_after};
 
 use circular_buffer::HeapCircularBuffer;
 use wb_signals::{Answer, Op};
@@ -50,8 +50,8 @@ fn lower(op: &Op) -> Op
     }
 }
 
-/// The answer as it goes back to the half that its operation came from, after which the half of the operation that passed
-/// is kept.
+/// The answer as it goes back to the half that its operation came from. The half of the operation that passed is kept for
+/// its own answer.
 pub fn go_back(
     uppers: &mut HeapCircularBuffer<bool>,
     answer: Option<Answer>,

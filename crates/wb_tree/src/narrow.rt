@@ -9,7 +9,7 @@ use crate::Branch;
 use crate::half::{go_back, one_half};
 use wb_signals::{Answer, Debtor, Op};
 
-/// A bus of 32 data bits behind a port of 64.
+/// A bus of 32 data bits behind a port of 64. It does what the bus does at the half of an operation.
 impl Branch {
     #[cycle(stalled)]
     pub(crate) fn narrow_stalled(&self, op: &Op) -> bool
@@ -63,7 +63,8 @@ impl Branch {
         requires unstalled { ForSome op (λ r.
             is_stalled (narrow_branch self.old).wiring (narrow_branch self.old).owed r ≡ false) }
         ensures answer { result ≡ given (branch_slave self.old).owed }
-        ensures after { branch_slave self.new ≡ ticked (branch_slave self.old) (halved_op (branch_children self.old) op) }
+        ensures after { branch_slave self.new ≡
+            ticked (branch_slave self.old) (halved_op (branch_children self.old) op) }
         ensures kept { Keeps self.old self.new }
         ensures sound { IsSoundBranch self.new }
     {
@@ -80,7 +81,8 @@ impl Branch {
         requires taken { (narrow_branch self.old).wiring.accepts op ≡ true }
         requires unstalled { is_stalled (narrow_branch self.old).wiring (narrow_branch self.old).owed op ≡ false }
         ensures answer { result ≡ given (branch_slave self.old).owed }
-        ensures after { branch_slave self.new ≡ ticked (branch_slave self.old) (halved_op (branch_children self.old) (Some op)) }
+        ensures after { branch_slave self.new ≡
+            ticked (branch_slave self.old) (halved_op (branch_children self.old) (Some op)) }
         ensures kept { Keeps self.old self.new }
         ensures sound { IsSoundBranch self.new }
     {
@@ -94,9 +96,11 @@ impl Branch {
     fn lost_tick(&mut self) -> Option<Answer>
         requires sound { IsSoundBranch self.old }
         requires width { branch_width self.old ≡ W32 }
-        requires unstalled { is_stalled (branch_slave self.old).wiring (branch_slave self.old).owed (lost (branch_children self.old)) ≡ false }
+        requires unstalled { is_stalled (branch_slave self.old).wiring (branch_slave self.old).owed
+            (lost (branch_children self.old)) ≡ false }
         ensures answer { result ≡ given (branch_slave self.old).owed }
-        ensures after { branch_slave self.new ≡ ticked (branch_slave self.old) (Some (lost (branch_children self.old))) }
+        ensures after { branch_slave self.new ≡
+            ticked (branch_slave self.old) (Some (lost (branch_children self.old))) }
         ensures kept { Keeps self.old self.new }
         ensures sound { IsSoundBranch self.new }
     {

@@ -50,8 +50,11 @@ impl Part {
     pub(crate) fn stalled(&self, op: &Op) -> bool
         requires sound { IsSoundPart self.now }
         requires covered { covers (child_of (part_slave self.now)) op.now.adr ≡ true }
-        requires taken { (part_slave self.now).slave.wiring.accepts (inside (child_of (part_slave self.now)) op.now) ≡ true }
-        ensures stalled { result ≡ is_stalled (part_slave self.now).slave.wiring (part_slave self.now).slave.owed (inside (child_of (part_slave self.now)) op.now) }
+        requires taken { (part_slave self.now).slave.wiring.accepts
+            (inside (child_of (part_slave self.now)) op.now) ≡ true }
+        ensures stalled { result ≡
+            is_stalled (part_slave self.now).slave.wiring (part_slave self.now).slave.owed
+            (inside (child_of (part_slave self.now)) op.now) }
     {
         let op = Op {
             write: op.write,
