@@ -1,17 +1,17 @@
 -- A bus of 32 data bits behind a port of 64 does what the bus does at the half of an operation.
-use Rattle.std.proofs.Common.{◌≡◌, ℕ, ◌+◌, suc, ◌-◌, ◌*◌, ◌/◌, ◌%◌, ◌^◌, ◌<◌, ◌≤◌, ◌==◌, ◌&&◌, not, nat_lt, nat_le, List, [], ◌∷◌, ◌++◌, length, length-append, get_or, set, map, Bool, true, false, cond, refl, ap, sym, ◌∙◌, subst, arith, Option, Some, None}
+use Rattle.std.proofs.Common.{◌≡◌, ℕ, suc, ◌-◌, ◌/◌, ◌%◌, ◌^◌, ◌<◌, ◌≤◌, ◌==◌, ◌&&◌, not, nat_lt, nat_le, List, [], ◌∷◌, ◌++◌, length, length-append, get_or, set, map, Bool, true, false, cond, refl, ap, sym, ◌∙◌, subst, arith, Option, Some, None}
 use Rattle.std.specs.List.{list_any}
 use Rattle.std.specs.Option.{ForSome}
 use Rattle.std.proofs.lemmas.List.{length-map}
 use Rattle.eb_base.specs.declared.width.Width.TheVariants.{W32, W64}
 use Rattle.eb_base.specs.Field.{number_at}
 use Rattle.eb_base.specs.Lanes.{selected}
-use Rattle.eb_base.proofs.LaneLemmas.{lane, selected-lt, selected-more, selected-parts}
-use Rattle.wb_signals.specs.Request.{Request, IsRequest}
+use Rattle.eb_base.proofs.LaneLemmas.{selected-lt}
+use Rattle.wb_signals.specs.Request.{Request}
 use Rattle.wb_signals.specs.Content.{Content, Nothing, Ram, Rom, Registers, Fifo}
 use Rattle.wb_signals.specs.Device.{Outcome, outcome, with_lanes, lanes_read, no_register, register_after, popped, pushed, counted, device}
 use Rattle.wb_signals.specs.Wiring.{Wiring, Arrival, Step, lifted, stepped, step}
-use Rattle.wb_signals.specs.Bus.{Child, covers, inside, farther, leaf, places_in, route_in, queue_in, wait_in, bus, Half, Upper, Lower, Both, half_of, half, narrow_route, narrow}
+use Rattle.wb_signals.specs.Bus.{Child, covers, inside, farther, leaf, places_in, route_in, queue_in, wait_in, bus, Half, Upper, Lower, Both, half_of, narrow_route, narrow}
 use Rattle.wb_signals.specs.History.{contents_after}
 use Rattle.wb_signals.specs.Cycles.{FitsBus}
 use Rattle.wb_signals.specs.Slave.{Owed, Slave, IsShaped, sooner, given, left, listed, owed_for, owed_after, ticked, is_stalled, owes}
@@ -321,33 +321,3 @@ pub narrow_fits : (parts : List Part) (first last : ℕ) (slave : Slave) → sla
 unfolding narrow
 narrow_fits parts first last slave e f b =
     rw e (record { shaped = narrow_shaped parts f; takes = λ r c t. takes_by W64 r.adr r.sel first last b c t })
-
--- ---- the upper half of an operation is one
-
-low_lane : (sel word : ℕ) → sel % 2 ≡ 0 → lane sel word ≡ 0
-low_lane sel word e = grind arith
-
--- no lane of the lower half
-selected-low : (sel word : ℕ) → sel % 16 ≡ 0 → selected 4 sel word ≡ 0
-selected-low sel word e =
-    let a = low_lane sel word (omega (arith, e)) in
-    let b = low_lane (sel / 2) (word / 256) (omega (arith, e)) in
-    let c = low_lane (sel / 2 / 2) (word / 256 / 256) (omega (arith, e)) in
-    let d = low_lane (sel / 2 / 2 / 2) (word / 256 / 256 / 256) (omega (arith, e)) in
-    omega (arith, a, b, c, d)
-
-upper_word : (dat low high all : ℕ) → all ≡ dat → all ≡ low + 2 ^ 32 * high → low ≡ 0 → dat / 2 ^ 32 ≡ high
-upper_word dat low high all e f z = omega arith
-
-pub upper-request : (r : Request) → IsRequest r → r.sel % 16 ≡ 0 → r.sel < 256 → IsRequest (half Upper r)
-upper-request r h e l =
-    let within : r.sel / 16 < 2 ^ 4 = omega (arith, l) in
-    let word = upper_word r.dat (selected 4 r.sel r.dat) (selected 4 (r.sel / 16) (r.dat / 2 ^ 32)) (selected 8 r.sel r.dat) h.selected_only (selected-parts 4 4 r.sel r.dat) (selected-low r.sel r.dat e) in
-    record {
-      some_lane = λ z. h.some_lane (omega (arith, e, z));
-      selected_only = selected-more 4 4 (r.sel / 16) (r.dat / 2 ^ 32) within ∙ sym word;
-      no_data = λ w. (let z = h.no_data w in omega (arith, z));
-    }
-
-pub lower-request : (r : Request) → IsRequest r → IsRequest (half Lower r)
-lower-request r h = record { some_lane = h.some_lane; selected_only = h.selected_only; no_data = h.no_data }

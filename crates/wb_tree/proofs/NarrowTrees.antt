@@ -21,7 +21,7 @@ use Rattle.wb_tree.specs.declared.part.Part.{Part as TreePart}
 use Rattle.wb_tree.specs.declared.node.Node.TheOpen.{Branch-F}
 use Rattle.wb_tree.specs.declared.node.Node.TheViews.{out-Branch, roll-Branch, out-roll-Branch}
 use Rattle.wb_tree.specs.declared.node.Node.TheFolds.{fold-roll-Branch}
-use Rattle.wb_tree.specs.Tree.{Inside, narrow_of, node_layer, branch_layer, part_layer, part_slave, branch_slave, narrow_branch, branch_parts, branch_width, branch_debtor, branch_children, IsNarrow, IsNew, Keeps, IsSoundBranch}
+use Rattle.wb_tree.specs.Tree.{BranchState, narrow_of, node_layer, branch_layer, part_layer, part_slave, branch_slave, narrow_branch, branch_parts, branch_width, branch_debtor, branch_children, IsNarrow, IsNew, Keeps, IsSoundBranch}
 use Rattle.wb_tree.proofs.Trees.{branch_slave-out, narrow_branch-out, sound_here, sound_held, sound_made, count, stalls_nobody, stalls_miss, stalls_elsewhere, k_within, passed_branch, passed_after, passed_sound, passed_keeps, answer_miss}
 
 -- ---- an operation that goes to none of the children
@@ -196,7 +196,7 @@ module _ (b : Branch) (s : IsSoundBranch b) (w : IsNarrow b) where
 
       pub next_after : narrow_branch (roll-Branch next_layer) ≡ ticked (narrow_branch b) op
       next_after =
-          ap narrow_of (fold-roll-Branch Slave Inside Part node_layer branch_layer part_layer next_layer)
+          ap narrow_of (fold-roll-Branch Slave BranchState Part node_layer branch_layer part_layer next_layer)
           ∙ ap (λ us. narrow_slave (branch_parts v) (branch_debtor v) us) items_are
           ∙ narrow-ticked (branch_parts b) (fits b s w.width) w.of (branch_debtor b) (branch_debtor v) (branch_parts v) (out-Branch b).uppers.items op w.kept kept.children inner_after
           ∙ ap (λ s. ticked s op) (sym (narrow_branch-out b))

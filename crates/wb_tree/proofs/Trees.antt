@@ -39,39 +39,39 @@ use Rattle.wb_tree.specs.declared.node.Node.TheOpen as open'
 use Rattle.wb_tree.specs.declared.node.Node.TheViews.{out-Node, out-Branch, roll-Branch, out-roll-Branch, out-Part, roll-Part}
 use Rattle.wb_tree.specs.declared.node.Node.TheVariants.{rolls-Classic, rolls-Wrapped, outs-Classic, outs-Wrapped, rolls-Pipe, rolls-Bus, outs-Bus, rolls-Narrow, outs-Narrow}
 use Rattle.wb_tree.specs.declared.node.Node.TheFolds.{map-Node, fold-roll-Node, fold_out-Node, fold-roll-Branch, fold_out-Branch, fold-roll-Part, fold_out-Part, every_here-Branch, every_held-Branch, every_made-Branch, every_here-Node, every_held-Node, every_made-Node, every_held-Part, every_made-Part}
-use Rattle.wb_tree.specs.Tree.{Inside, bus_of, narrow_of, inside_of, narrow_branch, branch_children, IsNarrow, IsNew, Keeps, node_slave, branch_slave, part_slave, piped_slave, node_layer, branch_layer, part_layer, branch_parts, branch_width, branch_debtor, IsSound, IsSoundBranch, IsSoundPart, IsSoundInside, AllSound, sound_node, held_sound, wrapped_slave, wrapped_sound}
+use Rattle.wb_tree.specs.Tree.{BranchState, bus_of, narrow_of, branch_state, narrow_branch, branch_children, IsNarrow, IsNew, Keeps, node_slave, branch_slave, part_slave, piped_slave, node_layer, branch_layer, part_layer, branch_parts, branch_width, branch_debtor, IsSound, IsSoundBranch, IsSoundPart, OwesFew, AllSound, sound_node, held_sound, wrapped_slave, wrapped_sound}
 
 -- ---- what a node, a bus and a child are, by their fields
 
 pub node_slave-Pipe : (p : Piped) → node_slave (Pipe p) ≡ piped_slave p
-node_slave-Pipe p = ap node_slave (sym (rolls-Pipe p)) ∙ fold-roll-Node Slave Inside Part node_layer branch_layer part_layer (open'.Pipe p)
+node_slave-Pipe p = ap node_slave (sym (rolls-Pipe p)) ∙ fold-roll-Node Slave BranchState Part node_layer branch_layer part_layer (open'.Pipe p)
 
 pub node_slave-Bus : (b : Box Branch Global) → node_slave (Bus b) ≡ branch_slave b.value
-node_slave-Bus b = ap node_slave (sym (rolls-Bus b)) ∙ fold-roll-Node Slave Inside Part node_layer branch_layer part_layer (open'.Bus b)
+node_slave-Bus b = ap node_slave (sym (rolls-Bus b)) ∙ fold-roll-Node Slave BranchState Part node_layer branch_layer part_layer (open'.Bus b)
 
 pub node_slave-Narrow : (b : Box Branch Global) → node_slave (Narrow b) ≡ narrow_branch b.value
-node_slave-Narrow b = ap node_slave (sym (rolls-Narrow b)) ∙ fold-roll-Node Slave Inside Part node_layer branch_layer part_layer (open'.Narrow b)
+node_slave-Narrow b = ap node_slave (sym (rolls-Narrow b)) ∙ fold-roll-Node Slave BranchState Part node_layer branch_layer part_layer (open'.Narrow b)
 
-abbrev pub inside_in : Branch-F Node Branch TreePart → Inside
-inside_in x = record { width = x.width; parts = map part_slave x.parts.items; debtor = x.debtor; uppers = x.uppers.items }
+abbrev pub state_in : Branch-F Node Branch TreePart → BranchState
+state_in x = record { width = x.width; parts = map part_slave x.parts.items; debtor = x.debtor; uppers = x.uppers.items }
 
-pub inside_of-out : (b : Branch) → inside_of b ≡ inside_in (out-Branch b)
-inside_of-out b = fold_out-Branch Slave Inside Part node_layer branch_layer part_layer b
+pub branch_state-out : (b : Branch) → branch_state b ≡ state_in (out-Branch b)
+branch_state-out b = fold_out-Branch Slave BranchState Part node_layer branch_layer part_layer b
 
 pub branch_slave-roll : (x : Branch-F Node Branch TreePart) → branch_slave (roll-Branch x) ≡ bus_slave x.width (map part_slave x.parts.items) x.debtor
-branch_slave-roll x = ap bus_of (fold-roll-Branch Slave Inside Part node_layer branch_layer part_layer x)
+branch_slave-roll x = ap bus_of (fold-roll-Branch Slave BranchState Part node_layer branch_layer part_layer x)
 
 pub branch_slave-out : (b : Branch) → branch_slave b ≡ bus_slave (branch_width b) (branch_parts b) (branch_debtor b)
-branch_slave-out b = ap bus_of (inside_of-out b)
+branch_slave-out b = ap bus_of (branch_state-out b)
 
 pub narrow_branch-out : (b : Branch) → narrow_branch b ≡ narrow_slave (branch_parts b) (branch_debtor b) (out-Branch b).uppers.items
-narrow_branch-out b = ap narrow_of (inside_of-out b)
+narrow_branch-out b = ap narrow_of (branch_state-out b)
 
 pub part_slave-roll : (x : Part-F Node Branch TreePart) → part_slave (roll-Part x) ≡ record { first = x.first; last = x.last; slave = node_slave x.node }
-part_slave-roll x = fold-roll-Part Slave Inside Part node_layer branch_layer part_layer x
+part_slave-roll x = fold-roll-Part Slave BranchState Part node_layer branch_layer part_layer x
 
 pub part_slave-out : (p : TreePart) → part_slave p ≡ record { first = (out-Part p).first; last = (out-Part p).last; slave = node_slave (out-Part p).node }
-part_slave-out p = fold_out-Part Slave Inside Part node_layer branch_layer part_layer p
+part_slave-out p = fold_out-Part Slave BranchState Part node_layer branch_layer part_layer p
 
 -- ---- what is sound, one layer at a time
 
@@ -83,12 +83,12 @@ pairs_of : (parts : List TreePart) → AllSound parts → (ys : List ((z : TreeP
 pairs_of [] h = ([], refl)
 pairs_of (p ∷ parts) h = let r = pairs_of parts h.1 in ((p, h.0) ∷ r.0, ap (λ ps. p ∷ ps) r.1)
 
-pub sound_here : (b : Branch) → IsSoundBranch b → IsSoundInside (out-Branch b)
-sound_here b h = every_here-Branch sound_node IsSoundInside (λ _. Unit {0}) b h
+pub sound_here : (b : Branch) → IsSoundBranch b → OwesFew (out-Branch b)
+sound_here b h = every_here-Branch sound_node OwesFew (λ _. Unit {0}) b h
 
 pub sound_held : (b : Branch) → IsSoundBranch b → AllSound (out-Branch b).parts.items
 sound_held b h =
-    let r = every_held-Branch sound_node IsSoundInside (λ _. Unit {0}) b h in
+    let r = every_held-Branch sound_node OwesFew (λ _. Unit {0}) b h in
     subst (λ (x : Branch-F Node Branch TreePart). AllSound x.parts.items) r.1 (sound_pairs r.0.parts.items)
 
 -- A `Vec` of other elements whose images are these.
@@ -98,35 +98,35 @@ vec_over h d ys e =
     let y = holding d ys (fits d ys l) in
     (y, holding_along d (map h ys) d.items e (fits y (map h ys) (length-map ys h)) d.ok)
 
-pub sound_made : (x : Branch-F Node Branch TreePart) → AllSound x.parts.items → IsSoundInside x → IsSoundBranch (roll-Branch x)
+pub sound_made : (x : Branch-F Node Branch TreePart) → AllSound x.parts.items → OwesFew x → IsSoundBranch (roll-Branch x)
 sound_made x h q =
     let r = pairs_of x.parts.items h in
     let v = vec_over (λ (e : (z : TreePart) × IsSoundPart z). e.0) x.parts r.0 r.1 in
-    every_made-Branch sound_node IsSoundInside (λ _. Unit {0}) x
+    every_made-Branch sound_node OwesFew (λ _. Unit {0}) x
     (record { width = x.width; parts = v.0; debtor = x.debtor; uppers = x.uppers })
     (ap (λ (ps : Vec TreePart Global). record { width = x.width; parts = ps; debtor = x.debtor; uppers = x.uppers }) v.1) q
 
 -- A child is sound where its node is, and a node where its bus is.
 pub part_held : (p : TreePart) → IsSoundPart p → IsSound (out-Part p).node
 part_held p h =
-    let r = every_held-Part sound_node IsSoundInside (λ _. Unit {0}) p h in
+    let r = every_held-Part sound_node OwesFew (λ _. Unit {0}) p h in
     subst (λ (x : Part-F Node Branch TreePart). IsSound x.node) r.1 r.0.node.1
 
 pub part_made : (x : Part-F Node Branch TreePart) → IsSound x.node → IsSoundPart (roll-Part x)
-part_made x h = every_made-Part sound_node IsSoundInside (λ _. Unit {0}) x (record { first = x.first; last = x.last; node = (x.node, h) }) refl tt
+part_made x h = every_made-Part sound_node OwesFew (λ _. Unit {0}) x (record { first = x.first; last = x.last; node = (x.node, h) }) refl tt
 
 pub pipe_sound : (p : Piped) → IsSound (Pipe p)
 pipe_sound p =
-    subst IsSound (rolls-Pipe p) (every_made-Node sound_node IsSoundInside (λ _. Unit {0}) (open'.Pipe p) (open'.Pipe p) refl tt)
+    subst IsSound (rolls-Pipe p) (every_made-Node sound_node OwesFew (λ _. Unit {0}) (open'.Pipe p) (open'.Pipe p) refl tt)
 
 pub bus_sound : (b : Box Branch Global) → IsSoundBranch b.value → IsSound (Bus b)
 bus_sound b h =
-    subst IsSound (rolls-Bus b) (every_made-Node sound_node IsSoundInside (λ _. Unit {0}) (open'.Bus b)
+    subst IsSound (rolls-Bus b) (every_made-Node sound_node OwesFew (λ _. Unit {0}) (open'.Bus b)
     (open'.Bus (record { ptr = b.ptr; alloc = b.alloc; value = (b.value, h) })) refl tt)
 
 pub narrow_sound : (b : Box Branch Global) → IsSoundBranch b.value → IsNarrow b.value → IsSound (Narrow b)
 narrow_sound b h w =
-    subst IsSound (rolls-Narrow b) (every_made-Node sound_node IsSoundInside (λ _. Unit {0}) (open'.Narrow b)
+    subst IsSound (rolls-Narrow b) (every_made-Node sound_node OwesFew (λ _. Unit {0}) (open'.Narrow b)
     (open'.Narrow (record { ptr = b.ptr; alloc = b.alloc; value = (b.value, h) })) refl w)
 
 -- What lies behind a layer of a bus is sound.
@@ -147,11 +147,11 @@ holds_sound (open'.Narrow b) = b.value.1
 
 pub holds : (n : Node) → IsSound n → HoldsSound (out-Node n)
 holds n h =
-    let r = every_held-Node sound_node IsSoundInside (λ _. Unit {0}) n h in
+    let r = every_held-Node sound_node OwesFew (λ _. Unit {0}) n h in
     subst HoldsSound r.1 (holds_sound r.0)
 
 pub sound_layer : (n : Node) → IsSound n → sound_node (out-Node n)
-sound_layer n h = every_here-Node sound_node IsSoundInside (λ _. Unit {0}) n h
+sound_layer n h = every_here-Node sound_node OwesFew (λ _. Unit {0}) n h
 
 -- A device behind its classic port.
 pub classic_held : (n : Node) (a : FromClassic Held) → n ≡ Classic a → IsSound n → held_sound a
@@ -161,10 +161,10 @@ pub wrapped_held : (n : Node) (a : FromClassic (ToClassic Piped)) → n ≡ Wrap
 wrapped_held n a e h = subst sound_node (ap out-Node e ∙ outs-Wrapped a) (sound_layer n h)
 
 pub classic_made : (a : FromClassic Held) → held_sound a → IsSound (Classic a)
-classic_made a h = subst IsSound (rolls-Classic a) (every_made-Node sound_node IsSoundInside (λ _. Unit {0}) (open'.Classic a) (open'.Classic a) refl h)
+classic_made a h = subst IsSound (rolls-Classic a) (every_made-Node sound_node OwesFew (λ _. Unit {0}) (open'.Classic a) (open'.Classic a) refl h)
 
 pub wrapped_made : (a : FromClassic (ToClassic Piped)) → wrapped_sound a → IsSound (Wrapped a)
-wrapped_made a h = subst IsSound (rolls-Wrapped a) (every_made-Node sound_node IsSoundInside (λ _. Unit {0}) (open'.Wrapped a) (open'.Wrapped a) refl h)
+wrapped_made a h = subst IsSound (rolls-Wrapped a) (every_made-Node sound_node OwesFew (λ _. Unit {0}) (open'.Wrapped a) (open'.Wrapped a) refl h)
 
 -- A node that is a bus.
 pub as_bus : (n : Node) (box : Box Branch Global) (v : Branch) → n ≡ Bus box → v ≡ box.value → node_slave n ≡ branch_slave v
@@ -197,18 +197,18 @@ few_behind s waiting (Some answer) = omega arith
 few_behind s None None = omega arith
 few_behind s (Some r) None = omega arith
 
-few_inside : (b : Branch) → IsSoundBranch b → length (branch_slave b).owed ≤ 16
-few_inside b h = rw (inside_of-out b) (sound_here b h).few
+few_branch : (b : Branch) → IsSoundBranch b → length (branch_slave b).owed ≤ 16
+few_branch b h = rw (branch_state-out b) (sound_here b h).few
 
-few_layer : (x : Node-F Node Branch TreePart) → HoldsSound x → length (node_layer (map-Node Node Branch TreePart Slave Inside Part node_slave inside_of part_slave x)).owed ≤ 16
+few_layer : (x : Node-F Node Branch TreePart) → HoldsSound x → length (node_layer (map-Node Node Branch TreePart Slave BranchState Part node_slave branch_state part_slave x)).owed ≤ 16
 few_layer (open'.Pipe p) h = few_piped p
 few_layer (open'.Classic a) h = few_behind (held_leaf a.inner.device a.inner.wait a.inner.standing) a.waiting a.ready
 few_layer (open'.Wrapped a) h = few_behind (through (piped_slave a.inner.inner) a.inner.standing) a.waiting a.ready
-few_layer (open'.Bus b) h = few_inside b.value h
-few_layer (open'.Narrow b) h = omega (arith, few_inside b.value h, length-back (inside_of b.value).uppers (branch_slave b.value).owed)
+few_layer (open'.Bus b) h = few_branch b.value h
+few_layer (open'.Narrow b) h = omega (arith, few_branch b.value h, length-back (branch_state b.value).uppers (branch_slave b.value).owed)
 
 few_node : (n : Node) → IsSound n → length (node_slave n).owed ≤ 16
-few_node n h = rw (fold_out-Node Slave Inside Part node_layer branch_layer part_layer n) (few_layer (out-Node n) (holds n h))
+few_node n h = rw (fold_out-Node Slave BranchState Part node_layer branch_layer part_layer n) (few_layer (out-Node n) (holds n h))
 
 few_part : (p : TreePart) → IsSoundPart p → length (part_slave p).slave.owed ≤ 16
 few_part p h = rw (part_slave-out p) (few_node (out-Part p).node (part_held p h))
@@ -329,7 +329,7 @@ module _ (b : Branch) (s : IsSoundBranch b) where
 
   -- whether it owes anything
   pub owes_any : not (is_nobody (branch_debtor b)) ≡ owes (branch_slave b).owed
-  owes_any = rw (inside_of-out b) (sym (owes-alone (branch_parts b) (branch_debtor b) alone.owing))
+  owes_any = rw (branch_state-out b) (sym (owes-alone (branch_parts b) (branch_debtor b) alone.owing))
 
   not_nobody : (d : Debtor) → d ≢ Nobody → true ≡ not (is_nobody d)
   not_nobody Nobody n = absurd (n refl)
@@ -348,17 +348,17 @@ module _ (b : Branch) (s : IsSoundBranch b) where
     stalls_here = is_stalled (branch_slave b).wiring (branch_slave b).owed r
 
     pub stalls_nobody : branch_debtor b ≡ Nobody → false ≡ stalls_here
-    stalls_nobody e = rw (inside_of-out b, e) (stalls-nobody (branch_width b) (branch_parts b) alone.fits r)
+    stalls_nobody e = rw (branch_state-out b, e) (stalls-nobody (branch_width b) (branch_parts b) alone.fits r)
 
     pub stalls_miss : branch_debtor b ≡ Miss → nat_lt to (length (out-Branch b).parts.items) ≡ stalls_here
-    stalls_miss e = rw (inside_of-out b, e, ← count) (stalls-miss (branch_width b) (branch_parts b) alone.fits r to at fits_bus)
+    stalls_miss e = rw (branch_state-out b, e, ← count) (stalls-miss (branch_width b) (branch_parts b) alone.fits r to at fits_bus)
 
     module _ (k : ℕ) (e : branch_debtor b ≡ Top k) where
       pub k_within : k < length (out-Branch b).parts.items
       k_within = omega (arith, (alone.owing k e).0, count)
 
       pub stalls_elsewhere : to ≢ k → true ≡ stalls_here
-      stalls_elsewhere n = rw (inside_of-out b, e) (let o = alone.owing k e in stalls-elsewhere (branch_width b) (branch_parts b) alone.fits r to k at fits_bus n o.0 o.1)
+      stalls_elsewhere n = rw (branch_state-out b, e) (let o = alone.owing k e in stalls-elsewhere (branch_width b) (branch_parts b) alone.fits r to k at fits_bus n o.0 o.1)
 
       module _ (same : to ≡ k) (d : TreePart) (v : d ≡ get_or (out-Branch b).parts.items k d) where
         lent : part_slave d ≡ part_at (branch_parts b) k
@@ -377,7 +377,7 @@ module _ (b : Branch) (s : IsSoundBranch b) where
         asked_takes = rw lent (taken (branch_width b) (branch_parts b) alone.fits r k here (alone.owing k e).0 fits_bus)
 
         pub asked_stalls : is_stalled (part_slave d).slave.wiring (part_slave d).slave.owed (inside (child_of (part_slave d)) r) ≡ stalls_here
-        asked_stalls = rw (inside_of-out b, e, lent) (stalls-here (branch_width b) (branch_parts b) alone.fits r k here (alone.owing k e).0 fits_bus)
+        asked_stalls = rw (branch_state-out b, e, lent) (stalls-here (branch_width b) (branch_parts b) alone.fits r k here (alone.owing k e).0 fits_bus)
 
   -- a clock
   module _ (op : Option Request) (t : ForSome op (λ r. (branch_slave b).wiring.accepts r ≡ true)) (u : ForSome op (λ r. is_stalled (branch_slave b).wiring (branch_slave b).owed r ≡ false))
@@ -415,10 +415,10 @@ module _ (b : Branch) (s : IsSoundBranch b) where
     children_are = children_now (branch_width b) (branch_parts b) (branch_debtor b) k op alone.fits focus alone.owing aims
 
     pub answer_top : k < length (out-Branch b).parts.items → given (part_at (branch_parts b) k).slave.owed ≡ given (branch_slave b).owed
-    answer_top l = rw (inside_of-out b) (given-Top (branch_parts b) (branch_debtor b) k focus (omega (arith, l, count)))
+    answer_top l = rw (branch_state-out b) (given-Top (branch_parts b) (branch_debtor b) k focus (omega (arith, l, count)))
 
     pub answer_miss : length (out-Branch b).parts.items ≤ k → missed_answer (branch_debtor b) ≡ given (branch_slave b).owed
-    answer_miss l = rw (inside_of-out b) (given-missed (branch_parts b) (branch_debtor b) k focus (omega (arith, l, count)) (λ j e. (alone.owing j e).0))
+    answer_miss l = rw (branch_state-out b) (given-missed (branch_parts b) (branch_debtor b) k focus (omega (arith, l, count)) (λ j e. (alone.owing j e).0))
 
     count_now : length now ≡ length (out-Branch b).parts.items
     count_now = length-set (branch_parts b) k (part_ticked (part_at (branch_parts b) k) op) ∙ count
@@ -542,4 +542,4 @@ module _ (width : Width) (parts : Vec TreePart Global) (uppers : Buffer Bool) wh
   }
 
 pub node_slave-Wrapped : (a : FromClassic (ToClassic Piped)) → node_slave (Wrapped a) ≡ wrapped_slave a
-node_slave-Wrapped a = ap node_slave (sym (rolls-Wrapped a)) ∙ fold-roll-Node Slave Inside Part node_layer branch_layer part_layer (open'.Wrapped a)
+node_slave-Wrapped a = ap node_slave (sym (rolls-Wrapped a)) ∙ fold-roll-Node Slave BranchState Part node_layer branch_layer part_layer (open'.Wrapped a)
