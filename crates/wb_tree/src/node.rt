@@ -14,7 +14,7 @@ use wb_adapter::{FromClassic, ToClassic};
 use wb_device::{Device, Held, Piped};
 use wb_signals::{Answer, Clocked, Debtor, Op};
 
-/// A slave of a bus, or a bus.
+/// A device by itself, behind one adapter or behind two; a bus; or a bus of 32 data bits behind a port of 64.
 #[cycle(tree)]
 #[derive(Drop)]
 pub enum Node {
