@@ -5,6 +5,8 @@
 #![tactic(auto)]
 
 #[cfg(test)]
+mod clocked;
+#[cfg(test)]
 mod codec;
 #[cfg(test)]
 mod commands;

@@ -1,1 +1,3 @@
-pub mod MemoryLemmas
+pub mod MergedLemmas
+pub mod Lines
+pub mod TakenLemmas

@@ -1,2 +1,5 @@
+pub mod State
 pub mod Limits
 pub mod Kind
+pub mod Line
+pub mod Standing

@@ -1,0 +1,26 @@
+-- Nodes that owe nothing.
+use Rattle.std.proofs.Common.{◌≡◌, ℕ, List, [], ◌∷◌, map, refl, ap, sym, subst}
+use Rattle.eb_base.specs.declared.width.Width.{Width}
+use Rattle.eb_base.specs.declared.width.Width.TheVariants.{W32, W64}
+use Rattle.wb_signals.specs.Slave.{Slave}
+use Rattle.wb_signals.specs.Parts.{Part, FitsIn, AllFitIn}
+use Rattle.wb_signals.specs.Turn.{bus_slave}
+use Rattle.wb_signals.specs.Narrow.{narrow_slave}
+use Rattle.wb_signals.specs.declared.debtor.Debtor.TheVariants.{Nobody}
+use Rattle.wb_signals.proofs.ShapeLemmas.{bus_fits}
+use Rattle.wb_signals.proofs.NarrowLemmas.{narrow_fits}
+use Rattle.wb_tree.specs.declared.node.Node.{Node}
+use Rattle.wb_tree.specs.declared.part.Part.{Part as TreePart}
+use Rattle.wb_tree.specs.Tree.{node_slave, part_slave, IsSound}
+use Rattle.eb_tests.specs.Quiet.{IsQuiet, first_part}
+
+-- the only child of a bus
+pub one_fits : (width : Width) (p : TreePart) (items : List TreePart) (last : ℕ) (n : Node) → items ≡ p ∷ [] → part_slave p ≡ first_part last n → FitsIn width (first_part last n)
+    → AllFitIn width (map part_slave items)
+one_fits width p items last n e q f = subst (λ items. AllFitIn width (map part_slave items)) (sym e) (subst (FitsIn width) (sym q) f, tt)
+
+pub bus_quiet : (n : Node) (parts : List Part) (last : ℕ) → AllFitIn W32 parts → node_slave n ≡ bus_slave W32 parts Nobody → IsSound n → IsQuiet W32 last n
+bus_quiet n parts last f e s = record { sound = s; free = ap (λ (s : Slave). s.owed) e; fits = bus_fits W32 parts 0 last (node_slave n) e f refl }
+
+pub narrow_quiet : (n : Node) (parts : List Part) (last : ℕ) → AllFitIn W32 parts → node_slave n ≡ narrow_slave parts Nobody [] → IsSound n → IsQuiet W64 last n
+narrow_quiet n parts last f e s = record { sound = s; free = ap (λ (s : Slave). s.owed) e; fits = narrow_fits parts 0 last (node_slave n) e f refl }
