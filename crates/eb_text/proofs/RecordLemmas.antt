@@ -11,12 +11,12 @@ use Rattle.sdb_build.specs.Tables.{spelled, table_records}
 use Rattle.sdb_build.specs.Buses.{PlacedBus, buses_of}
 use Rattle.sdb_build.specs.Whole.{IsWhole, IsTable}
 use Rattle.sdb_build.specs.Laws.{table_address, table_image}
-use Rattle.sdb_build.proofs.ImageLemmas.{length-octets_of}
+use Rattle.sdb_build.proofs.ImageLemmas.{length-spelled}
 use Rattle.sdb_build.proofs.BusLemmas.{images_of_buses, tables_of_accepted}
 use Rattle.eb_text.specs.Build.{record_count, record_lines, table_line, build_text, record_line, lines_of_records, text_of_buses, LineForEachRecord, BuildByRecords}
 
 counted : (rs : List Record) → All IsWhole rs → record_count (spelled rs) ≡ length rs
-counted rs whole = omega (arith, length-octets_of rs whole)
+counted rs whole = omega (arith, length-spelled rs whole)
 
 front : (n : ℕ) (xs ys : List ℕ) → length xs ≡ n → take n (xs ++ ys) ≡ xs
 front n xs ys e = subst (λ (k : ℕ). take k (xs ++ ys) ≡ xs) e (take-append_seam xs ys)
