@@ -1,5 +1,5 @@
 -- The rooms of a stream.
-use Rattle.std.specs.Prelude.{ℕ, ◌+◌, ◌<◌, ◌≤◌, length, vec_capacity}
+use Rattle.std.specs.Prelude.{◌+◌, ◌<◌, ◌≤◌, length, vec_capacity}
 use Rattle.eb_server.specs.declared.rooms.Rooms.{Rooms}
 
 -- A piece has room, and the replies to what pends before it and to it.

@@ -8,8 +8,8 @@ use std::alloc::Global;
 // What pends of an item before a piece has fewer octets, and its reply is no longer than that.
 const ITEM: usize = 4104;
 
-/// Where the octets of a stream are read to, and where the replies to a piece of it are gathered. They are taken once, and
-/// serve one stream after another.
+/// Where the octets of a stream are read to, and where the replies to a piece of it are gathered. They are taken once,
+/// and serve one stream after another.
 #[derive(Drop)]
 pub struct Rooms {
     pub(crate) piece: Vec<u8>,

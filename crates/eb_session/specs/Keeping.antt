@@ -92,11 +92,15 @@ abbrev pub MalformedExactly : SessionState → List ℕ → Result Fed End → T
 MalformedExactly old piece answer = (p : ℕ) (why : Why) → old.ending ≡ None
     → (answer ≡ Err (end.Malformed (old.progress.start + p) why)) ↔ IsBadOctet old.progress.sets old.progress.header (old.progress.pending ++ piece) p why
 
+-- how many octets of its stream a session took
+abbrev pub octets_taken : SessionState → ℕ
+octets_taken session = session.progress.start + length session.progress.pending
+
 -- Where a session stands in its stream after a call that took some of so many octets.
 pub record Advances (old new : SessionState) (len : ℕ) (fed : Fed) : Type 0 where
   pub within : fed.taken ≤ len
   pub moves : 0 < len → 0 < fed.taken
-  pub place : new.progress.start + length new.progress.pending ≡ old.progress.start + length old.progress.pending + fed.taken
+  pub place : octets_taken new ≡ octets_taken old + fed.taken
 
 -- how a stream ends where these octets pend
 abbrev pub finished : List ℕ → End

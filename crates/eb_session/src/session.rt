@@ -2,7 +2,7 @@
 ghost use Rattle.std.specs.Prelude.{◌≡◌, ◌<◌, ◌≤◌, ◌+◌, ◌^◌, List, IsSome, IfSome, IfOk, OnOk, OnErr, None, Some, [], length};
 ghost use Rattle.eb_codec.specs.Decoding.{record_in};
 ghost use Rattle.wb_signals.specs.declared.answer.Answer.{Answer};
-ghost use Rattle.eb_session.specs.Keeping.{new_session, FeedsSession, MalformedExactly, Finishes, Advances};
+ghost use Rattle.eb_session.specs.Keeping.{new_session, FeedsSession, MalformedExactly, Finishes, Advances, octets_taken};
 ghost use Rattle.eb_session.specs.Keeping.{WasGiven, ItemRan, ItemUnrun, RecordRan, Unrun, is_item};
 
 use crate::configuration::shifted;
@@ -132,13 +132,12 @@ impl Session {
     ) -> Result<Fed, End>
         requires width { (M.identity master.old).bus ≡ self.old.slave.bus }
         requires closed { IfSome self.old.ending (λ _. (M.cycles master.old).opened ≡ []) }
-        requires fewer { self.old.progress.start + length self.old.progress.pending + length piece.now < 2 ^ 64 }
+        requires fewer { octets_taken self.old + length piece.now < 2 ^ 64 }
         ensures fed { FeedsSession (M.identity master.old).number self.old piece.now self.new
             (M.cycles master.old) (M.cycles master.new) result }
         ensures malformed { MalformedExactly self.old piece.now result }
         ensures placed { IfOk result (λ fed. Advances self.old self.new (length piece.now) fed) }
-        ensures bound { self.new.progress.start + length self.new.progress.pending
-            ≤ self.old.progress.start + length self.old.progress.pending + length piece.now }
+        ensures bound { octets_taken self.new ≤ octets_taken self.old + length piece.now }
         ensures short { IfOk result (λ fed. length self.new.reply + length self.new.progress.pending
             ≤ length self.old.progress.pending + fed.taken) }
         ensures running { OnOk result (self.new.ending ≡ None) }

@@ -204,8 +204,8 @@ static ROWS: [Row; 16] = [
     },
 ];
 
-// Captures on SOC and their replies: the fifth push finds the FIFO full; both pops find it empty; the first two words of
-// its root table.
+// Captures on SOC and their replies: the fifth push finds the FIFO full; both pops find it empty; the first two words
+// of its root table.
 static ON_SOC: [(&[u8], &[u8]); 3] = [
     (
         &[

@@ -29,13 +29,19 @@ impl Master for NoRoom {
     ghost use Rattle.wb_signals.specs.declared.answer.Answer.TheVariants.{Err};
 
     ghost cycles = { λ s. record {
-        made = if s.was_cut
-            then record { master = 0; cut = true; pairs = record {
-                request = record { write = false; adr = 0; dat = 0; sel = 1 }; answer = Err } ∷ [] } ∷ []
-            else [];
-        opened = if s.is_open
-            then record { request = record { write = false; adr = 0; dat = 0; sel = 1 }; answer = Err } ∷ []
-            else [];
+      made = if s.was_cut
+          then record {
+            master = 0;
+            cut = true;
+            pairs = record {
+              request = record { write = false; adr = 0; dat = 0; sel = 1 };
+              answer = Err;
+            } ∷ [];
+          } ∷ []
+          else [];
+      opened = if s.is_open
+          then record { request = record { write = false; adr = 0; dat = 0; sel = 1 }; answer = Err } ∷ []
+          else [];
     } };
 
     ghost Kept = { Unit {0} };

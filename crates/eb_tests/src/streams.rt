@@ -16,7 +16,9 @@ fn no_memory_for_a_record(rt: HostRuntime) -> Result<(), Fail> {
     let mut source = MemSource::new(Vec::from_slice(alloc, &octets)?, 1, Vec::new(alloc));
     let mut sink = MemSink::new(alloc, 64, 3, Vec::new(alloc))?;
     let (bus, root) = (Width::W32, 0);
-    let mut session = Session::new(alloc, Slave { bus, root }).ok().ok_or("session")?;
+    let mut session = Session::new(alloc, Slave { bus, root })
+        .ok()
+        .ok_or("session")?;
     let mut master = NoRoom::new();
     let mut rooms = Rooms::new(alloc, 16).ok().ok_or("rooms")?;
     let ending = serve(

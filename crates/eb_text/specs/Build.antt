@@ -8,7 +8,7 @@ use Rattle.sdb_record.specs.declared.kinds.Record.{Record}
 use Rattle.sdb_record.specs.Layout.{wishbone}
 use Rattle.sdb_record.specs.Relation.{encoded}
 use Rattle.sdb_build.specs.declared.image.Image.{Image}
-use Rattle.sdb_build.specs.Tables.{octets_of, table_records, images_of}
+use Rattle.sdb_build.specs.Tables.{spelled, table_records, images_of}
 use Rattle.sdb_build.specs.Buses.{PlacedBus, buses_of}
 use Rattle.sdb_build.specs.Whole.{IsWhole}
 use Rattle.sdb_build.specs.Laws.{table_address}
@@ -56,7 +56,7 @@ text_of_buses (b ∷ bs) = text_of_records (table_address b) (table_records b.bu
 
 -- A table's text has a line for each of its records, where each of them has 64 octets.
 abbrev pub LineForEachRecord : Type 0
-LineForEachRecord = (at : ℕ) (rs : List Record) → All IsWhole rs → table_text at (octets_of rs) ≡ text_of_records at rs
+LineForEachRecord = (at : ℕ) (rs : List Record) → All IsWhole rs → table_text at (spelled rs) ≡ text_of_records at rs
 
 -- The build text of an accepted description is the text of the tables of its buses, with a line for each record.
 abbrev pub BuildByRecords : Type 0

@@ -51,13 +51,13 @@ listed item shown seen fields s b f same images tabled = record {
 
 -- an item with no bus behind it
 leaf_listed : (y : ItemDescription-F ItemDescription BusDescription)
-    → let shown = tables.item_layer (map-ItemDescription ItemDescription BusDescription ItemTables BusTables item_tables bus_tables y) in
-    let seen = buses.item_layer (map-ItemDescription ItemDescription BusDescription ItemBuses BusBuses item_buses bus_buses y) in
+    → let shown = tables.placed_item_layer (map-ItemDescription ItemDescription BusDescription ItemTables BusTables item_tables bus_tables y) in
+    let seen = buses.placed_item_layer (map-ItemDescription ItemDescription BusDescription ItemBuses BusBuses item_buses bus_buses y) in
     seen.item ≡ roll-ItemDescription y → ((base : ℕ) → shown.images base ≡ []) → ((base : ℕ) → seen.behind base ≡ []) → IsListedItem (roll-ItemDescription y)
 leaf_listed y same none alone =
     listed (roll-ItemDescription y) _ _ _
-    (fold-roll-ItemDescription ItemTables BusTables tables.item_layer tables.bus_layer y)
-    (fold-roll-ItemDescription ItemBuses BusBuses buses.item_layer buses.bus_layer y)
+    (fold-roll-ItemDescription ItemTables BusTables tables.placed_item_layer tables.placed_bus_layer y)
+    (fold-roll-ItemDescription ItemBuses BusBuses buses.placed_item_layer buses.placed_bus_layer y)
     (fold-roll-ItemDescription Bool Bool item_fields_layer (bus_fields_layer is_32_or_64) y)
     same (λ base. none base ∙ sym (ap (λ (bs : List PlacedBus). map table_image bs) (alone base)))
     (λ h base. subst (λ (bs : List PlacedBus). All HasTable bs) (sym (alone base)) (All-nil HasTable))
@@ -66,8 +66,8 @@ bridge_listed : (p : Product) (at : ℕ) (b : BusDescription) → IsListedBus b 
 bridge_listed p at b l =
     let y : ItemDescription-F ItemDescription BusDescription = Bridge p at b in
     listed (roll-ItemDescription y) _ _ _
-    (fold-roll-ItemDescription ItemTables BusTables tables.item_layer tables.bus_layer y)
-    (fold-roll-ItemDescription ItemBuses BusBuses buses.item_layer buses.bus_layer y)
+    (fold-roll-ItemDescription ItemTables BusTables tables.placed_item_layer tables.placed_bus_layer y)
+    (fold-roll-ItemDescription ItemBuses BusBuses buses.placed_item_layer buses.placed_bus_layer y)
     (fold-roll-ItemDescription Bool Bool item_fields_layer (bus_fields_layer is_32_or_64) y)
     (ap (λ (x : BusDescription). roll-ItemDescription (Bridge p at x)) l.same)
     (λ base. l.images (base + at))
@@ -110,8 +110,8 @@ module _ (p : Product) (width : Width) (last sdb : ℕ) (es : List ListedItem) w
   abbrev seen : BusDescription-F ItemBuses BusBuses
   seen = record { product = p; width = width; last = last; sdb = sdb; items = map item_buses (plain es) }
 
-  buses_seen : bus_buses bus ≡ buses.bus_layer seen
-  buses_seen = fold-roll-BusDescription ItemBuses BusBuses buses.item_layer buses.bus_layer layer
+  buses_seen : bus_buses bus ≡ buses.placed_bus_layer seen
+  buses_seen = fold-roll-BusDescription ItemBuses BusBuses buses.placed_item_layer buses.placed_bus_layer layer
 
   same_seen : same_bus seen ≡ bus
   same_seen = ap (λ (is : List ItemDescription). roll-BusDescription (record { product = p; width = width; last = last; sdb = sdb; items = is })) (same_items es)

@@ -10,7 +10,7 @@ use Rattle.sdb_record.specs.declared.kinds.Record.{Record}
 use Rattle.sdb_record.specs.declared.kinds.Record.TheVariants as sdb
 use Rattle.sdb_record.specs.Layout.{Field, Number, Text, wishbone, product_fields, component_fields, type_field, fields}
 use Rattle.sdb_record.specs.Relation.{with_field, with_fields, encoded}
-use Rattle.sdb_build.specs.Tables.{octets_of}
+use Rattle.sdb_build.specs.Tables.{spelled}
 use Rattle.sdb_build.specs.Whole.{IsWhole}
 
 -- a field ends within so many octets
@@ -63,6 +63,6 @@ module _ (p : Product) (name : length p.name ≡ 19) where
 pub whole_empty : IsWhole sdb.Empty
 whole_empty = length-encoded sdb.Empty (lit≤ tt, tt)
 
-pub length-octets_of : (rs : List Record) → All IsWhole rs → length (octets_of rs) ≡ 64 * length rs
-length-octets_of [] h = refl
-length-octets_of (r ∷ rs) h = omega (arith, length-append (encoded wishbone r) (octets_of rs), All-head IsWhole r rs h, length-octets_of rs (All-tail IsWhole r rs h))
+pub length-spelled : (rs : List Record) → All IsWhole rs → length (spelled rs) ≡ 64 * length rs
+length-spelled [] h = refl
+length-spelled (r ∷ rs) h = omega (arith, length-append (encoded wishbone r) (spelled rs), All-head IsWhole r rs h, length-spelled rs (All-tail IsWhole r rs h))

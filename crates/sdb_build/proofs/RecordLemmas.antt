@@ -22,7 +22,7 @@ use Rattle.sdb_record.specs.declared.kinds.Record.TheVariants.{Interconnect}
 use Rattle.sdb_build.specs.Tables as tables
 use Rattle.sdb_build.specs.Tables.{ItemTables, BusTables, item_tables, bus_tables, entry_on, entries, interconnect, table_records, image_of}
 use Rattle.sdb_build.specs.Whole.{IsWhole, IsTable}
-use Rattle.sdb_build.proofs.ImageLemmas.{whole_device, whole_bridge, whole_interconnect, whole_integration, whole_empty, length-octets_of}
+use Rattle.sdb_build.proofs.ImageLemmas.{whole_device, whole_bridge, whole_interconnect, whole_integration, whole_empty, length-spelled}
 use Rattle.sdb_build.proofs.SoundLemmas.{own_fields}
 use Rattle.sdb_build.proofs.TableLemmas.{records_are}
 
@@ -49,7 +49,7 @@ module _ (widths : Width → Bool) where
   whole_entry width item h =
       let v : OnBus BusDescription = on_bus (out-ItemDescription item) in
       let same : (item_tables item).entry width ≡ entry_on (with_bus bus_tables v) width =
-      ap (λ (t : ItemTables). t.entry width) (fold_out-ItemDescription ItemTables BusTables tables.item_layer tables.bus_layer item)
+      ap (λ (t : ItemTables). t.entry width) (fold_out-ItemDescription ItemTables BusTables tables.placed_item_layer tables.placed_bus_layer item)
       ∙ ap (λ (u : OnBus BusTables). entry_on u width) (on_bus-map item_tables bus_tables (out-ItemDescription item)) in
       subst IsWhole (sym same) (whole_seen width v (sym (fields_seen item v refl widths) ∙ h))
 
@@ -99,4 +99,4 @@ module _ (widths : Width → Bool) (bus : BusDescription) (fields : bus_fields w
       }
 
   pub length-image_of : length (image_of bus) ≡ 64 * (length (out-BusDescription bus).items + 1)
-  length-image_of = length-octets_of (table_records bus) whole_table ∙ ap (λ (n : ℕ). 64 * n) length-table
+  length-image_of = length-spelled (table_records bus) whole_table ∙ ap (λ (n : ℕ). 64 * n) length-table

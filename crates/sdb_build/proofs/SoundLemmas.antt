@@ -18,7 +18,7 @@ use Rattle.soc_desc.specs.Geometry.{ItemPlace, BusPlace, item_place, bus_place, 
 use Rattle.soc_desc.specs.Accepted.{IsSoundBusOf, all_of, is_product, is_make, item_fields, bus_fields}
 use Rattle.soc_desc.specs.Checks.{is_in}
 use Rattle.soc_desc.specs.Shape.{address, last_address}
-use Rattle.sdb_build.specs.Sound.{end_in_range, IsSoundItem, AreSoundItems}
+use Rattle.sdb_build.specs.Sound.{end_in_range, IsSoundAt, AreSoundItems}
 
 all_append : {A : Type 0} (p : A → Bool) (xs ys : List A) → list_all p (xs ++ ys) ≡ true → (list_all p xs ≡ true) × (list_all p ys ≡ true)
 all_append p [] ys h = (refl, h)
@@ -76,7 +76,7 @@ module _ (widths : Width → Bool) where
         record { fields = (and_parts others (all_of (map (item_fields widths) b.items)) (own_fields bus sound.fields)).1; places = parts.2; ends = raised base b.last (extents (map item_place b.items)) inside parts.0 }
 
   -- the first of these items, and the others
-  pub first_sound : (base : ℕ) (item : ItemDescription) (items : List ItemDescription) → AreSoundItems widths base (item ∷ items) → IsSoundItem widths base item
+  pub first_sound : (base : ℕ) (item : ItemDescription) (items : List ItemDescription) → AreSoundItems widths base (item ∷ items) → IsSoundAt widths base item
   first_sound base item items h = record {
     fields = (and_parts (item_fields widths item) (all_of (map (item_fields widths) items)) h.fields).0;
     places = (and_parts (item_place item).placed (all_behind (map item_place items)) h.places).0;
@@ -91,7 +91,7 @@ module _ (widths : Width → Bool) where
   }
 
   -- a device that keeps the rules of its kind has some octets, and ends in range
-  pub device_sound : (base : ℕ) (item : ItemDescription) (d : Device) → OfDevice d ≡ on_bus (out-ItemDescription item) → IsSoundItem widths base item
+  pub device_sound : (base : ℕ) (item : ItemDescription) (d : Device) → OfDevice d ≡ on_bus (out-ItemDescription item) → IsSoundAt widths base item
       → (is_make d.make ≡ true) × (1 ≤ octets_in d.make) × (base + d.at + octets_in d.make ≤ 2 ^ 64) × (d.at % 4 ≡ 0)
   device_sound base item d is h =
       let kept = device_kept d.product d.at d.make d.interface (sym (fields_seen item (OfDevice d) is widths) ∙ h.fields) in
@@ -102,7 +102,7 @@ module _ (widths : Width → Bool) where
       (kept.made, some, omega (arith, some, last), kept.aligned)
 
   -- the bus behind a bridge keeps the rules, and ends in range
-  pub bridge_sound : (base : ℕ) (item : ItemDescription) (p : Product) (at : ℕ) (bus : BusDescription) → OfBridge p at bus ≡ on_bus (out-ItemDescription item) → IsSoundItem widths base item
+  pub bridge_sound : (base : ℕ) (item : ItemDescription) (p : Product) (at : ℕ) (bus : BusDescription) → OfBridge p at bus ≡ on_bus (out-ItemDescription item) → IsSoundAt widths base item
       → IsSoundBusOf widths bus × (base + at + (out-BusDescription bus).last < 2 ^ 64)
   bridge_sound base item p at bus is h =
       let fields : (is_product p && is_in (address 4) at && bus_fields widths bus) ≡ true = sym (fields_seen item (OfBridge p at bus) is widths) ∙ h.fields in

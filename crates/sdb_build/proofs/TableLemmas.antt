@@ -7,7 +7,7 @@ use Rattle.soc_desc.specs.declared.description.BusDescription.{BusDescription}
 use Rattle.soc_desc.specs.declared.description.ItemDescription.{ItemDescription, the_lemmas}
 use Rattle.soc_desc.specs.declared.description.ItemDescription.TheViews.{out-BusDescription}
 use Rattle.sdb_build.specs.declared.image.Image.{Image}
-use Rattle.sdb_build.specs.Tables.{octets_of, entries, interconnect, records_of, images_behind, item_tables, table_records, image_of, image_at, bus_images}
+use Rattle.sdb_build.specs.Tables.{spelled, entries, interconnect, records_of, images_behind, item_tables, table_records, image_of, image_at, bus_images}
 
 length_map : {A B : Type 0} (f : A → B) (xs : List A) → length (map f xs) ≡ length xs
 length_map f [] = refl
@@ -29,12 +29,12 @@ module _ (bus : BusDescription) where
   -- a table whose first record and whose others were written
   pub table_is : (start middle end : List ℕ) (first : Record) (items : List ItemDescription) → let b = out-BusDescription bus in
       start ≡ [] → first ≡ interconnect b.product b.last (length b.items) → middle ≡ start ++ encoded wishbone first → items ≡ b.items
-      → end ≡ middle ++ octets_of (entries b.width (map item_tables items)) → end ≡ image_of bus
+      → end ≡ middle ++ spelled (entries b.width (map item_tables items)) → end ≡ image_of bus
   table_is start middle end first items none bus_record written same others =
       let b = out-BusDescription bus in
       let front : middle ≡ encoded wishbone (interconnect b.product b.last (length b.items)) = written ∙ ap (λ s. s ++ encoded wishbone first) none ∙ ap (λ r. encoded wishbone r) bus_record in
-      others ∙ ap (λ m. m ++ octets_of (entries b.width (map item_tables items))) front
-      ∙ ap (λ is. encoded wishbone (interconnect b.product b.last (length b.items)) ++ octets_of (entries b.width (map item_tables is))) same ∙ sym (ap octets_of records_are)
+      others ∙ ap (λ m. m ++ spelled (entries b.width (map item_tables items))) front
+      ∙ ap (λ is. encoded wishbone (interconnect b.product b.last (length b.items)) ++ spelled (entries b.width (map item_tables is))) same ∙ sym (ap spelled records_are)
 
   images_are : (base : ℕ) → bus_images bus base ≡ image_at bus base ∷ images_behind base (map item_tables (out-BusDescription bus).items)
   images_are base = search (rules, the_lemmas)

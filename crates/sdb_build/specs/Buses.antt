@@ -38,20 +38,20 @@ abbrev pub behind_items : ℕ → List ItemBuses → List PlacedBus
 behind_items base [] = []
 behind_items base (item ∷ items) = item.behind base ++ behind_items base items
 
-abbrev pub item_layer : ItemDescription-F ItemBuses BusBuses → ItemBuses
-item_layer item = record { item = same_item item; behind = behind_item item }
+abbrev pub placed_item_layer : ItemDescription-F ItemBuses BusBuses → ItemBuses
+placed_item_layer item = record { item = same_item item; behind = behind_item item }
 
-abbrev pub bus_layer : BusDescription-F ItemBuses BusBuses → BusBuses
-bus_layer b = record {
+abbrev pub placed_bus_layer : BusDescription-F ItemBuses BusBuses → BusBuses
+placed_bus_layer b = record {
   bus = same_bus b;
   all = λ base. record { base = base; bus = same_bus b } ∷ behind_items base b.items;
 }
 
 abbrev pub item_buses : ItemDescription → ItemBuses
-item_buses = fold-ItemDescription ItemBuses BusBuses item_layer bus_layer
+item_buses = fold-ItemDescription ItemBuses BusBuses placed_item_layer placed_bus_layer
 
 abbrev pub bus_buses : BusDescription → BusBuses
-bus_buses = fold-BusDescription ItemBuses BusBuses item_layer bus_layer
+bus_buses = fold-BusDescription ItemBuses BusBuses placed_item_layer placed_bus_layer
 
 -- the base of the root is 0
 abbrev pub buses_of : Description → List PlacedBus

@@ -6,7 +6,7 @@ use Rattle.soc_desc.specs.declared.description.BusDescription.{BusDescription}
 use Rattle.soc_desc.specs.declared.description.ItemDescription.TheViews.{out-BusDescription}
 use Rattle.soc_desc.specs.Accepted.{IsSoundBusOf, is_32_or_64}
 use Rattle.sdb_build.specs.declared.image.Image.{Image}
-use Rattle.sdb_build.specs.Tables.{octets_of, table_records, images_of}
+use Rattle.sdb_build.specs.Tables.{spelled, table_records, images_of}
 use Rattle.sdb_build.specs.Buses.{PlacedBus, bus_buses, buses_of}
 use Rattle.sdb_build.specs.Whole.{IsTable}
 
@@ -16,7 +16,7 @@ table_address b = b.base + (out-BusDescription b.bus).sdb
 
 -- the octets of its records, where it stands
 abbrev pub table_image : PlacedBus → Image
-table_image b = record { at = table_address b; octets = octets_of (table_records b.bus) }
+table_image b = record { at = table_address b; octets = spelled (table_records b.bus) }
 
 -- A bus is listed as itself.
 abbrev pub ListedAsItself : Type 0

@@ -12,7 +12,7 @@ abbrev pub end_in_range : ℕ → List Extent → Bool
 end_in_range base es = list_all (λ e. nat_lt (base + e.last) (2 ^ 64)) es
 
 -- an item with all buses behind it, which have these widths
-pub record IsSoundItem (widths : Width → Bool) (base : ℕ) (item : ItemDescription) : Type 0 where
+pub record IsSoundAt (widths : Width → Bool) (base : ℕ) (item : ItemDescription) : Type 0 where
   pub fields : item_fields widths item ≡ true
   pub places : (item_place item).placed ≡ true
   pub ends : end_in_range base (extent_at (item_place item).extent) ≡ true

@@ -18,9 +18,9 @@ use Rattle.sdb_build.specs.declared.image.Image.{Image}
 -- ---- octets
 
 -- the octets of records, one after another
-abbrev pub octets_of : List Record → List ℕ
-octets_of [] = []
-octets_of (r ∷ rs) = encoded wishbone r ++ octets_of rs
+abbrev pub spelled : List Record → List ℕ
+spelled [] = []
+spelled (r ∷ rs) = encoded wishbone r ++ spelled rs
 
 -- ---- records
 
@@ -32,8 +32,8 @@ access_widths W32 = 1 + 2 + 4
 access_widths W64 = 1 + 2 + 4 + 8
 
 -- a device on a bus of this width
-abbrev pub device : Device → Width → Record
-device d width =
+abbrev pub device_entry : Device → Width → Record
+device_entry d width =
     sdb.Device d.interface.class d.interface.major d.interface.minor (access_widths width) d.at (d.at + octets_in d.make - 1) d.product
 
 -- a bridge at an address to a bus with this last address, whose table stands there
@@ -60,14 +60,14 @@ pub record BusTables : Type 0 where
   pub images : ℕ → List Image
 
 abbrev pub entry_on : OnBus BusTables → Width → Record
-entry_on (OfDevice d) width = device d width
+entry_on (OfDevice d) width = device_entry d width
 entry_on (OfBridge p at bus) width = bridge p at bus.last bus.sdb
 entry_on (OfNote p) width = sdb.Integration p
 entry_on OfEmpty width = sdb.Empty
 
 -- The base of the bus behind a bridge is the bridge's address from the base of its own bus.
-abbrev pub item_layer : ItemDescription-F ItemTables BusTables → ItemTables
-item_layer item = record {
+abbrev pub placed_item_layer : ItemDescription-F ItemTables BusTables → ItemTables
+placed_item_layer item = record {
   entry = λ width. entry_on (on_bus item) width;
   images = bridged (λ base. []) (λ at bus base. bus.images (base + at)) (on_bus item);
 }
@@ -84,19 +84,19 @@ images_behind base (item ∷ items) = item.images base ++ images_behind base ite
 abbrev pub records_of : Product → Width → ℕ → List ItemTables → List Record
 records_of p width last items = interconnect p last (length items) ∷ entries width items
 
-abbrev pub bus_layer : BusDescription-F ItemTables BusTables → BusTables
-bus_layer b = record {
+abbrev pub placed_bus_layer : BusDescription-F ItemTables BusTables → BusTables
+placed_bus_layer b = record {
   last = b.last;
   sdb = b.sdb;
   records = records_of b.product b.width b.last b.items;
-  images = λ base. record { at = base + b.sdb; octets = octets_of (records_of b.product b.width b.last b.items) } ∷ images_behind base b.items;
+  images = λ base. record { at = base + b.sdb; octets = spelled (records_of b.product b.width b.last b.items) } ∷ images_behind base b.items;
 }
 
 abbrev pub item_tables : ItemDescription → ItemTables
-item_tables = fold-ItemDescription ItemTables BusTables item_layer bus_layer
+item_tables = fold-ItemDescription ItemTables BusTables placed_item_layer placed_bus_layer
 
 abbrev pub bus_tables : BusDescription → BusTables
-bus_tables = fold-BusDescription ItemTables BusTables item_layer bus_layer
+bus_tables = fold-BusDescription ItemTables BusTables placed_item_layer placed_bus_layer
 
 -- ---- the table of a bus, and the images of a description
 
@@ -106,7 +106,7 @@ table_records bus = (bus_tables bus).records
 
 -- the octets of the ROM of a bus
 abbrev pub image_of : BusDescription → List ℕ
-image_of bus = octets_of (table_records bus)
+image_of bus = spelled (table_records bus)
 
 -- the ROM of a bus with this base, at its absolute address
 abbrev pub image_at : BusDescription → ℕ → Image

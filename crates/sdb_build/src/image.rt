@@ -3,7 +3,7 @@ ghost use Rattle.std.specs.Prelude.{◌≡◌, ◌+◌, ◌<◌, ◌^◌, ◌++�
 ghost use Rattle.soc_desc.specs.Accepted.{IsSoundBusOf, is_32_or_64};
 ghost use Rattle.soc_desc.specs.declared.description.ItemDescription.TheViews.{out-BusDescription};
 ghost use Rattle.sdb_build.specs.Tables.{item_tables, image_at, images_behind, bus_images, images_of};
-ghost use Rattle.sdb_build.specs.Sound.{IsSoundItem, AreSoundItems};
+ghost use Rattle.sdb_build.specs.Sound.{IsSoundAt, AreSoundItems};
 
 use crate::tables::table;
 use eb_base::{NoMemory, Octets};
@@ -75,7 +75,7 @@ fn push_item(
     base: u64,
     item: &ItemDescription,
 ) -> Result<(), NoMemory>
-    requires sound { IsSoundItem is_32_or_64 base item.now }
+    requires sound { IsSoundAt is_32_or_64 base item.now }
     ensures { OnOk result (images.new.items ≡ images.old.items ++ (item_tables item.now).images base) }
 {
     match item {
@@ -84,9 +84,9 @@ fn push_item(
     }
 }
 
-/// The ROM images of a description: one for each bus, the root first and each bus before those behind its bridges, in the
-/// order of the items. Their addresses are absolute: the root's base is 0, and that of a bus behind a bridge is the base of the
-/// bridge's bus with the bridge's address.
+/// The ROM images of a description: one for each bus, the root first and each bus before those behind its bridges, in
+/// the order of the items. Their addresses are absolute: the root's base is 0, and that of a bus behind a bridge is
+/// the base of the bridge's bus with the bridge's address.
 pub fn images(alloc: Global, description: &Description) -> Result<Vec<Image>, NoMemory>
     requires sound { IsSoundBusOf is_32_or_64 description.now.bus }
     ensures images { IfOk result (λ v. v.items ≡ images_of description.now) }

@@ -1,7 +1,7 @@
 //! The tables of the Self-Describing Bus (SDB 1.1) of the buses of a description, and the ROM images that hold them.
 //!
-//! The octets of each table are those of its records, 64 for each, at the absolute address of its bus's ROM. Buses may have
-//! 32 or 64 data bits.
+//! The octets of each table are those of its records, 64 for each, at the absolute address of its bus's ROM. Buses may
+//! have 32 or 64 data bits.
 //!
 //! - `records`: the record of a bus and of an item
 //! - `tables`: the octets of a table

@@ -3,9 +3,9 @@ ghost use Rattle.std.specs.Prelude.{◌≡◌, ◌+◌, ◌≤◌, ◌^◌, leng
 ghost use Rattle.sdb_record.specs.Relation.{IsValid};
 ghost use Rattle.soc_desc.specs.Accepted.{IsSoundBusOf, is_32_or_64};
 ghost use Rattle.soc_desc.specs.declared.description.ItemDescription.TheViews.{out-BusDescription};
-ghost use Rattle.sdb_build.specs.Tables.{access_widths, device, interconnect, item_tables};
+ghost use Rattle.sdb_build.specs.Tables.{access_widths, device_entry, interconnect, item_tables};
 ghost use Rattle.soc_desc.specs.View.{made, device_shown, octets_in};
-ghost use Rattle.sdb_build.specs.Sound.{IsSoundItem};
+ghost use Rattle.sdb_build.specs.Sound.{IsSoundAt};
 
 use eb_base::Width;
 use sdb_record::Record;
@@ -42,7 +42,7 @@ pub fn interconnect(bus: &BusDescription) -> Record
 fn device_record(width: Width, seen: DeviceView) -> Record
     requires some { 1 ≤ octets_in (made seen.make) }
     requires inside { seen.at + octets_in (made seen.make) ≤ 2 ^ 64 }
-    ensures value { result ≡ device (device_shown seen.entry) width }
+    ensures value { result ≡ device_entry (device_shown seen.entry) width }
     ensures valid { IsValid result }
 {
     let last = u128::from(seen.at) + (octets_in(seen.make) - 1);
@@ -59,7 +59,7 @@ fn device_record(width: Width, seen: DeviceView) -> Record
 
 /// The record of an item in the table of a bus of this width.
 pub fn entry(width: Width, item: &ItemDescription) -> Record
-    requires sound { IsSoundItem is_32_or_64 0 item.now }
+    requires sound { IsSoundAt is_32_or_64 0 item.now }
     ensures value { result ≡ (item_tables item.now).entry width }
     ensures valid { IsValid result }
 {

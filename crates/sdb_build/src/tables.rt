@@ -4,7 +4,7 @@ ghost use Rattle.sdb_record.specs.Layout.{wishbone};
 ghost use Rattle.sdb_record.specs.Relation.{IsValid, encoded};
 ghost use Rattle.soc_desc.specs.Accepted.{IsSoundBusOf, is_32_or_64};
 ghost use Rattle.soc_desc.specs.declared.description.ItemDescription.TheViews.{out-BusDescription};
-ghost use Rattle.sdb_build.specs.Tables.{octets_of, entries, item_tables, image_of};
+ghost use Rattle.sdb_build.specs.Tables.{spelled, entries, item_tables, image_of};
 ghost use Rattle.sdb_build.specs.Sound.{AreSoundItems};
 
 use crate::records::{entry, interconnect};
@@ -30,7 +30,8 @@ fn push_entries(
     items: &[ItemDescription],
 ) -> Result<(), AllocError>
     requires { AreSoundItems is_32_or_64 0 items.now }
-    ensures octets { OnOk result (out.new.items ≡ out.old.items ++ octets_of (entries width (map item_tables items.now))) }
+    ensures octets { OnOk result (out.new.items
+        ≡ out.old.items ++ spelled (entries width (map item_tables items.now))) }
     ensures len { OnOk result (vec_len out.new ≡ vec_len out.old + 64 * length items.now) }
 {
     for item in items {
@@ -39,8 +40,8 @@ fn push_entries(
     Ok(())
 }
 
-/// The SDB table of a bus, as the octets of its ROM: 64 for the bus itself and 64 for each item, in their order. Addresses in it
-/// are relative to the base of the bus, reserved octets are zero, and names are padded with spaces.
+/// The SDB table of a bus, as the octets of its ROM: 64 for the bus itself and 64 for each item, in their order.
+/// Addresses in it are relative to the base of the bus, reserved octets are zero, and names are padded with spaces.
 pub fn table(alloc: Global, bus: &BusDescription) -> Result<Vec<u8>, NoMemory>
     requires sound { IsSoundBusOf is_32_or_64 bus.now }
     ensures octets { IfOk result (λ v. v.items ≡ image_of bus.now) }

@@ -83,8 +83,8 @@ fn decode_in(bus: u8, bytes: &Octets) -> Result<Record, RecordFault>
     }
 }
 
-/// The record that 64 octets are, in a table of a Wishbone bus (SDB 1.1). Reserved octets may be any, and spaces and zeros may
-/// stand behind a name. Else the first fault, in the order of [`crate::RecordWhy`]. It takes no memory.
+/// The record that 64 octets are, in a table of a Wishbone bus (SDB 1.1). Reserved octets may be any, and spaces and
+/// zeros may stand behind a name. Else the first fault, in the order of [`crate::RecordWhy`]. It takes no memory.
 pub fn decode(bytes: &[u8; 64]) -> Result<Record, RecordFault>
     ensures value { result ≡ decoded wishbone bytes.now }
     ensures related { IfOk result (λ r. IsRecord wishbone r bytes.now) }

@@ -93,9 +93,9 @@ fn put_record(out: &mut Octets, value: &Record)
     }
 }
 
-/// The 64 octets of a record (SDB 1.1), in a table of a Wishbone bus. Reserved octets are zero, and a name is padded with
-/// spaces. The record is valid: an interconnect counts at least itself, and no first address is above the last. It takes no
-/// memory.
+/// The 64 octets of a record (SDB 1.1), in a table of a Wishbone bus. Reserved octets are zero, and a name is padded
+/// with spaces. The record is valid: an interconnect counts at least itself, and no first address is above the last.
+/// It takes no memory.
 pub fn encode(value: &Record) -> [u8; 64]
     requires valid { IsValid value.now }
     ensures octets { result ≡ encoded wishbone value.now }

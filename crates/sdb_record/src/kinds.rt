@@ -1,8 +1,8 @@
 //! The five records of a table.
 use eb_base::Product;
 
-/// A record of a table of the Self-Describing Bus (SDB 1.1). Addresses are in octets, relative to the base of the bus that
-/// holds the table; `last` is the last address of the range.
+/// A record of a table of the Self-Describing Bus (SDB 1.1). Addresses are in octets, relative to the base of the bus
+/// that holds the table; `last` is the last address of the range.
 #[derive(Clone, Copy, Debug, PartialEq, Eq)]
 pub enum Record {
     /// The first record of a table: how many records it has with this one, and the bus's range.

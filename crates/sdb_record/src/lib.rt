@@ -1,7 +1,7 @@
 //! The records of the Self-Describing Bus (SDB 1.1), 64 octets each.
 //!
-//! One table of fields serves both ways: a record has exactly the octets that the table gives, and octets are a record's or
-//! have their first fault.
+//! One table of fields serves both ways: a record has exactly the octets that the table gives, and octets are a
+//! record's or have their first fault.
 //!
 //! - `kinds`: the five records
 //! - `encoding`: from a record to its octets

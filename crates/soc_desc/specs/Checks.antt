@@ -136,8 +136,8 @@ abbrev pub in_range : Range → Path → ℕ → Found ℕ
 in_range range path n = if is_in range n then Ok n else Err (fault.Range path)
 
 -- a number of a range
-abbrev pub number : Range → Path → Data → Found ℕ
-number range path d = kind_or path (number_of d) >>= in_range range path
+abbrev pub number_within : Range → Path → Data → Found ℕ
+number_within range path d = kind_or path (number_of d) >>= in_range range path
 
 -- ---- texts
 

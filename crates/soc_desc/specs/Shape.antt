@@ -18,7 +18,7 @@ use Rattle.soc_desc.specs.declared.description.Description.{Description}
 use Rattle.soc_desc.specs.declared.shape.ItemKind.{ItemKind}
 use Rattle.soc_desc.specs.declared.shape.ItemKind.TheVariants as kind
 use Rattle.soc_desc.specs.declared.view.Interface.{Interface}
-use Rattle.soc_desc.specs.Checks.{Path, Found, ◌>>=◌, ◌>>◌, object, object_of, known, required, optional, from_to, number, text, Word, word, list}
+use Rattle.soc_desc.specs.Checks.{Path, Found, ◌>>=◌, ◌>>◌, object, object_of, known, required, optional, from_to, number_within, text, Word, word, list}
 
 -- ---- the numbers that keys take
 
@@ -81,10 +81,10 @@ product_keys = codes "vendor" ∷ codes "device" ∷ codes "version" ∷ codes "
 unfoldable pub product : Path → Data → Found Product
 product path d = do
   ms ← object_of product_keys path d
-  vendor ← required (number u64) path (codes "vendor") ms
-  device ← required (number u32) path (codes "device") ms
-  version ← required (number u32) path (codes "version") ms
-  date ← required (number u32) path (codes "date") ms
+  vendor ← required (number_within u64) path (codes "vendor") ms
+  device ← required (number_within u32) path (codes "device") ms
+  version ← required (number_within u32) path (codes "version") ms
+  date ← required (number_within u32) path (codes "date") ms
   the_name ← required name path (codes "name") ms
   Ok (record { vendor = vendor; device = device; version = version; date = date; name = the_name })
 
@@ -97,7 +97,7 @@ unfoldable pub reg : Path → Data → Found Reg
 reg path d = do
   ms ← object_of reg_keys path d
   mode ← required (word modes) path (codes "mode") ms
-  reset ← optional (number u32) 0 path (codes "reset") ms
+  reset ← optional (number_within u32) 0 path (codes "reset") ms
   Ok (record { mode = mode; reset = reset })
 
 -- ---- an item, by its kind
@@ -120,24 +120,24 @@ keys kind.Empty = codes "kind" ∷ []
 unfoldable pub interface : Path → Members → Found Interface
 interface path ms = do
   port ← optional (word ports) Pipelined path (codes "port") ms
-  wait ← optional (number wait_clocks) 0 path (codes "wait") ms
-  class ← optional (number u16) 0 path (codes "abi_class") ms
-  major ← optional (number u8) 0 path (codes "abi_major") ms
-  minor ← optional (number u8) 0 path (codes "abi_minor") ms
+  wait ← optional (number_within wait_clocks) 0 path (codes "wait") ms
+  class ← optional (number_within u16) 0 path (codes "abi_class") ms
+  major ← optional (number_within u8) 0 path (codes "abi_major") ms
+  minor ← optional (number_within u8) 0 path (codes "abi_minor") ms
   Ok (record { port = port; wait = wait; class = class; major = major; minor = minor })
 
 unfoldable pub ram_item : Path → Members → Found ItemDescription
 ram_item path ms = do
   the_product ← required product path (codes "product") ms
-  at ← required (number (address 4)) path (codes "at") ms
-  size ← required (number (ram_size 4)) path (codes "size") ms
+  at ← required (number_within (address 4)) path (codes "at") ms
+  size ← required (number_within (ram_size 4)) path (codes "size") ms
   a ← interface path ms
   Ok (Ram the_product at size a.port a.wait a.class a.major a.minor)
 
 unfoldable pub regs_item : Path → Members → Found ItemDescription
 regs_item path ms = do
   the_product ← required product path (codes "product") ms
-  at ← required (number (address 4)) path (codes "at") ms
+  at ← required (number_within (address 4)) path (codes "at") ms
   words ← required (list 1 1024 reg) path (codes "words") ms
   a ← interface path ms
   Ok (Regs the_product at words a.port a.wait a.class a.major a.minor)
@@ -145,8 +145,8 @@ regs_item path ms = do
 unfoldable pub fifo_item : Path → Members → Found ItemDescription
 fifo_item path ms = do
   the_product ← required product path (codes "product") ms
-  at ← required (number (address 4)) path (codes "at") ms
-  depth ← required (number fifo_depth) path (codes "depth") ms
+  at ← required (number_within (address 4)) path (codes "at") ms
+  depth ← required (number_within fifo_depth) path (codes "depth") ms
   a ← interface path ms
   Ok (Fifo the_product at depth a.port a.wait a.class a.major a.minor)
 
@@ -154,7 +154,7 @@ fifo_item path ms = do
 unfoldable pub bridge_item : (Path → Data → Found BusDescription) → Path → Members → Found ItemDescription
 bridge_item bus path ms = do
   the_product ← required product path (codes "product") ms
-  at ← required (number (address 4)) path (codes "at") ms
+  at ← required (number_within (address 4)) path (codes "at") ms
   child ← required bus path (codes "bus") ms
   Ok (Bridge the_product at child)
 
@@ -188,8 +188,8 @@ unfoldable pub bus_of : (Path → Data → Found ItemDescription) → Path → D
 bus_of an_item path d = do
   ms ← object_of bus_keys path d
   the_product ← required product path (codes "product") ms
-  last ← required (number (last_address 4)) path (codes "last") ms
-  sdb ← required (number (address 4)) path (codes "sdb") ms
+  last ← required (number_within (last_address 4)) path (codes "last") ms
+  sdb ← required (number_within (address 4)) path (codes "sdb") ms
   items ← required (list 0 64 an_item) path (codes "items") ms
   Ok (roll-BusDescription (record { product = the_product; width = W32; last = last; sdb = sdb; items = items }))
 
@@ -206,9 +206,9 @@ root_keys = codes "version" ∷ codes "data" ∷ codes "depth" ∷ codes "master
 unfoldable pub root : Path → Data → Found Description
 root path d = do
   ms ← object_of root_keys path d
-  version ← required (number (from_to 1 1)) path (codes "version") ms
-  data_bits ← required (number (from_to 32 32)) path (codes "data") ms
-  depth ← required (number one_to_16) path (codes "depth") ms
-  masters ← required (number one_to_16) path (codes "masters") ms
+  version ← required (number_within (from_to 1 1)) path (codes "version") ms
+  data_bits ← required (number_within (from_to 32 32)) path (codes "data") ms
+  depth ← required (number_within one_to_16) path (codes "depth") ms
+  masters ← required (number_within one_to_16) path (codes "masters") ms
   the_bus ← required (bus 4) path (codes "bus") ms
   Ok (record { depth = depth; masters = masters; bus = the_bus })

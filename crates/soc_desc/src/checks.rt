@@ -4,7 +4,7 @@ ghost use Rattle.std.specs.List.{list_any};
 ghost use Rattle.std.specs.Str.{bytes_eq};
 ghost use Rattle.serde_json.specs.View.{view, items_view, members_view};
 ghost use Rattle.serde_json.specs.Find.{get_member};
-ghost use Rattle.soc_desc.specs.Checks.{Gives, object, object_of, unknown, required, optional, number, number_of, hex_of, digit, digits_after, is_in, at_key, known, refuse_unknown};
+ghost use Rattle.soc_desc.specs.Checks.{Gives, object, object_of, unknown, required, optional, number_within, number_of, hex_of, digit, digits_after, is_in, at_key, known, refuse_unknown};
 
 use crate::fault::DescFault;
 use crate::path::Path;
@@ -103,7 +103,7 @@ pub fn number_at(
 ) -> Result<u64, DescFault>
     requires step { 0 < range.step }
     ensures found { Gives (λ n. n) result
-        (required (number range) path.now key.now (members_view members.now.entries)) }
+        (required (number_within range) path.now key.now (members_view members.now.entries)) }
     ensures most { IfOk result (λ n. n ≤ range.most) }
     ensures inside { IfOk result (λ n. is_in range n ≡ true) }
 {
@@ -125,7 +125,7 @@ pub fn number_or(
     requires step { 0 < range.step }
     requires missing { is_in range missing ≡ true }
     ensures found { Gives (λ n. n) result
-        (optional (number range) missing path.now key.now (members_view members.now.entries)) }
+        (optional (number_within range) missing path.now key.now (members_view members.now.entries)) }
     ensures most { IfOk result (λ n. n ≤ range.most) }
     ensures inside { IfOk result (λ n. is_in range n ≡ true) }
 {
@@ -143,7 +143,7 @@ fn number(
     range: Range,
 ) -> Result<u64, DescFault>
     requires step { 0 < range.step }
-    ensures found { Gives (λ n. n) result (number range (at_key path.now key.now) (view value.now)) }
+    ensures found { Gives (λ n. n) result (number_within range (at_key path.now key.now) (view value.now)) }
     ensures most { IfOk result (λ n. n ≤ range.most) }
     ensures inside { IfOk result (λ n. is_in range n ≡ true) }
 {

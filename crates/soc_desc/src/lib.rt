@@ -1,7 +1,7 @@
 //! The JSON description of a system on a chip: its buses, what stands on them, and its masters. `serde_json` reads it.
 //!
-//! A description is accepted exactly where it breaks no rule; else the first broken one is named, with its path. What is
-//! accepted keeps every limit.
+//! A description is accepted exactly where it breaks no rule; else the first broken one is named, with its path. What
+//! is accepted keeps every limit.
 //!
 //! - `description`: what was read
 //! - `view`: what an item is on its bus, whatever its kind

@@ -20,8 +20,8 @@ const MOST_OCTETS: usize = 1_048_576;
 
 /// Reads a description, a JSON text of at most 1,048,576 octets.
 ///
-/// Four stages of checks follow one another: the text, the shape of its objects, where items and ROMs stand on each bus,
-/// and the totals. The first rule that is broken is the fault; `NoMemory` can come in place of any answer.
+/// Four stages of checks follow one another: the text, the shape of its objects, where items and ROMs stand on each
+/// bus, and the totals. The first rule that is broken is the fault; `NoMemory` can come in place of any answer.
 pub fn read(alloc: Global, text: &[u8]) -> Result<Description, DescFault>
     ensures ok { IfOk result (λ d. described text.now ≡ Ok d) }
     ensures fault { IfErr result (λ e. e ≢ fault.NoMemory → described text.now ≡ Err e) }

@@ -1,5 +1,5 @@
 use Rattle.std.proofs.Common.{ap, sym, subst, List, ℕ}
-use Rattle.std.specs.Prelude.{Result, Err, ⊤}
+use Rattle.std.specs.Prelude.{Err}
 use Rattle.eb_io.specs.Writing.{Took, WroteFront}
 use Rattle.eb_server.specs.declared.ending.Ending.{Ending}
 use Rattle.eb_server.specs.Piece.{ServesPiece}
