@@ -12,15 +12,15 @@ use Rattle.wb_signals.proofs.NarrowLemmas.{narrow_fits}
 use Rattle.wb_tree.specs.declared.node.Node.{Node}
 use Rattle.wb_tree.specs.declared.part.Part.{Part as TreePart}
 use Rattle.wb_tree.specs.Tree.{node_slave, part_slave, IsSound}
-use Rattle.eb_tests.specs.Quiet.{IsQuiet, first_part}
+use Rattle.eb_tests.specs.Quiet.{IsQuietNode, first_part}
 
 -- the only child of a bus
 pub one_fits : (width : Width) (p : TreePart) (items : List TreePart) (last : ℕ) (n : Node) → items ≡ p ∷ [] → part_slave p ≡ first_part last n → FitsIn width (first_part last n)
     → AllFitIn width (map part_slave items)
 one_fits width p items last n e q f = subst (λ items. AllFitIn width (map part_slave items)) (sym e) (subst (FitsIn width) (sym q) f, tt)
 
-pub bus_quiet : (n : Node) (parts : List Part) (last : ℕ) → AllFitIn W32 parts → node_slave n ≡ bus_slave W32 parts Nobody → IsSound n → IsQuiet W32 last n
+pub bus_quiet : (n : Node) (parts : List Part) (last : ℕ) → AllFitIn W32 parts → node_slave n ≡ bus_slave W32 parts Nobody → IsSound n → IsQuietNode W32 last n
 bus_quiet n parts last f e s = record { sound = s; free = ap (λ (s : Slave). s.owed) e; fits = bus_fits W32 parts 0 last (node_slave n) e f refl }
 
-pub narrow_quiet : (n : Node) (parts : List Part) (last : ℕ) → AllFitIn W32 parts → node_slave n ≡ narrow_slave parts Nobody [] → IsSound n → IsQuiet W64 last n
+pub narrow_quiet : (n : Node) (parts : List Part) (last : ℕ) → AllFitIn W32 parts → node_slave n ≡ narrow_slave parts Nobody [] → IsSound n → IsQuietNode W64 last n
 narrow_quiet n parts last f e s = record { sound = s; free = ap (λ (s : Slave). s.owed) e; fits = narrow_fits parts 0 last (node_slave n) e f refl }

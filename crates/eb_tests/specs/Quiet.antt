@@ -17,7 +17,7 @@ abbrev pub first_part : ℕ → Node → Part
 first_part last n = record { first = 0; last = last; slave = node_slave n }
 
 -- A node that owes nothing, and fits a bus of this width at the addresses from 0 to `last`.
-pub record IsQuiet (width : Width) (last : ℕ) (n : Node) : Type 0 where
+pub record IsQuietNode (width : Width) (last : ℕ) (n : Node) : Type 0 where
   pub sound : IsSound n
   pub free : (node_slave n).owed ≡ []
   pub fits : FitsIn width (first_part last n)

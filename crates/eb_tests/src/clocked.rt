@@ -3,7 +3,7 @@ ghost use Rattle.eb_base.specs.Width.{octets};
 ghost use Rattle.eb_base.specs.declared.width.Width.TheVariants.{W32, W64};
 ghost use Rattle.wb_signals.specs.Narrow.{IsOf32};
 ghost use Rattle.wb_tree.specs.Tree.{node_slave};
-ghost use Rattle.eb_tests.specs.Quiet.{IsQuiet, IsRoomy};
+ghost use Rattle.eb_tests.specs.Quiet.{IsQuietNode, IsRoomy};
 
 use eb_base::{Mode, NoMemory, Reg, Width};
 use std::alloc::Global;
@@ -12,8 +12,8 @@ use wb_device::Device;
 use wb_signals::{Answer, Clocked, Op};
 use wb_tree::{Node, Part};
 
-/// The clock in which an operation is answered that passes in clock 1, its answer, and the clocks that stall another one
-/// until then, as bits.
+/// The clock in which an operation is answered that passes in clock 1, its answer, and the clocks that stall another
+/// one until then, as bits.
 type Course = (u32, Option<Answer>, u32);
 
 /// A device of each kind: a RAM, registers, a FIFO and a ROM.
@@ -47,7 +47,7 @@ fn rom(alloc: Global) -> Result<Device, NoMemory>
 /// The device with a wait of 2, by its port word: pipelined, classic or wrapped.
 fn leaf(device: Device, port: u8) -> Node
     requires roomy { IsRoomy device }
-    ensures quiet { IsQuiet W32 7 result }
+    ensures quiet { IsQuietNode W32 7 result }
     ensures half { IsOf32 (node_slave result).wiring }
 {
     match port {
@@ -59,8 +59,8 @@ fn leaf(device: Device, port: u8) -> Node
 
 /// A bus with this node at the addresses from 0 to `last`.
 fn under(alloc: Global, node: Node, last: u64) -> Result<Node, NoMemory>
-    requires quiet { IsQuiet W32 last node }
-    ensures quiet { IfOk result (IsQuiet W32 15) }
+    requires quiet { IsQuietNode W32 last node }
+    ensures quiet { IfOk result (IsQuietNode W32 15) }
 {
     let parts = vec![in alloc; Part::new(0, last, node)]?;
     let bus = Node::bus(alloc, parts, Width::W32)?;
@@ -69,8 +69,8 @@ fn under(alloc: Global, node: Node, last: u64) -> Result<Node, NoMemory>
 
 /// The node under three bridges.
 fn deep(alloc: Global, node: Node) -> Result<Node, NoMemory>
-    requires quiet { IsQuiet W32 7 node }
-    ensures quiet { IfOk result (IsQuiet W32 15) }
+    requires quiet { IsQuietNode W32 7 node }
+    ensures quiet { IfOk result (IsQuietNode W32 15) }
 {
     let one = under(alloc, node, 7)?;
     let two = under(alloc, one, 15)?;
@@ -80,7 +80,7 @@ fn deep(alloc: Global, node: Node) -> Result<Node, NoMemory>
 
 /// A bus of 32 data bits behind a port of 64, with a ROM at address 0.
 fn narrow(alloc: Global) -> Result<Node, NoMemory>
-    ensures quiet { IfOk result (IsQuiet W64 7) }
+    ensures quiet { IfOk result (IsQuietNode W64 7) }
 {
     let node = leaf(rom(alloc)?, 0);
     let parts = vec![in alloc; Part::new(0, 7, node)]?;
@@ -102,7 +102,7 @@ fn read(adr: u64, sel: u8) -> Op
 }
 
 fn course(node: Node, bus: Width, last: u64, op: Op) -> Course
-    requires quiet { IsQuiet bus last node }
+    requires quiet { IsQuietNode bus last node }
     requires word { op.adr % octets bus ≡ 0 }
     requires within { op.adr ≤ last }
     requires lanes { op.sel < 2 ^ octets bus }

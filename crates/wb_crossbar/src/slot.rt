@@ -34,8 +34,11 @@ pub fn is_stalled<S: Clocked>(slots: &[Slot<S>], k: usize, op: &Op) -> bool
     requires k_in { k < length slots.now }
     requires sound { AllSound S.is_sound slots.now }
     requires covered { covers (child_of (part_at (parts_of S.slave slots.now) k)) op.now.adr ≡ true }
-    requires taken { (part_at (parts_of S.slave slots.now) k).slave.wiring.accepts (inside (child_of (part_at (parts_of S.slave slots.now) k)) op.now) ≡ true }
-    ensures stalled { result ≡ is_stalled (part_at (parts_of S.slave slots.now) k).slave.wiring (part_at (parts_of S.slave slots.now) k).slave.owed (inside (child_of (part_at (parts_of S.slave slots.now) k)) op.now) }
+    requires taken { (part_at (parts_of S.slave slots.now) k).slave.wiring.accepts
+        (inside (child_of (part_at (parts_of S.slave slots.now) k)) op.now) ≡ true }
+    ensures stalled { result ≡ is_stalled (part_at (parts_of S.slave slots.now) k).slave.wiring
+        (part_at (parts_of S.slave slots.now) k).slave.owed
+        (inside (child_of (part_at (parts_of S.slave slots.now) k)) op.now) }
 {
     let slot = &slots[k];
     let op = Op {

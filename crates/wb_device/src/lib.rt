@@ -1,7 +1,9 @@
-//! Devices on a Wishbone bus of 32 or 64 data bits: RAM, ROM, registers, and a FIFO, whose words `circular_buffer` keeps.
+//! Devices on a Wishbone bus of 32 or 64 data bits: RAM, ROM, registers, and a FIFO, whose words `circular_buffer`
+//! keeps.
 //!
-//! An operation on a device makes of what it holds exactly what the device function says, and has its answer. `Held` and
-//! `Piped` make the same operations clock by clock, on a classic and on a pipelined bus.
+//! An operation on a device makes of what it holds exactly what the device function says, and has its answer.
+//!
+//! `Held` and `Piped` make the same operations clock by clock, on a classic and on a pipelined bus.
 //!
 //! - `device`: a device of any kind, and an operation on it
 //! - `memory`: RAM and ROM

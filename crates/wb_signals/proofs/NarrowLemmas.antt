@@ -17,7 +17,7 @@ use Rattle.wb_signals.specs.Cycles.{FitsBus}
 use Rattle.wb_signals.specs.Slave.{Owed, Slave, IsShaped, sooner, given, left, listed, owed_for, owed_after, ticked, is_stalled, owes}
 use Rattle.wb_signals.specs.Parts.{Part, child_of, contents_in, places_before, FitsIn, AllFitIn}
 use Rattle.wb_signals.specs.Turn.{owed_by, bus_slave}
-use Rattle.wb_signals.specs.Narrow.{IsOf32, AllOf32, IsShort, AllShort, is_upper, nowhere, halved_by, halved, halved_op, owed_back, answer_back, uppers_left, uppers_after, narrow_slave}
+use Rattle.wb_signals.specs.Narrow.{IsOf32, AllOf32, FitsHalf, AllFitHalf, is_upper, nowhere, halved_by, halved, halved_op, owed_back, answer_back, uppers_left, uppers_after, narrow_slave}
 use Rattle.wb_signals.specs.declared.answer.Answer.{Answer}
 use Rattle.wb_signals.specs.declared.answer.Answer.TheVariants.{Ack, Err, Rty}
 use Rattle.wb_signals.specs.declared.debtor.Debtor.{Debtor}
@@ -227,25 +227,25 @@ module _ (parts : List Part) where
 
 -- ---- words of 32 bits
 
-short_by : (b : Bool) (x y : Outcome) → IsShort x.answer → IsShort y.answer → IsShort (cond b x y).answer
+short_by : (b : Bool) (x y : Outcome) → FitsHalf x.answer → FitsHalf y.answer → FitsHalf (cond b x y).answer
 short_by true x y a b = a
 short_by false x y a b = b
 
 short-lanes : (lanes sel word : ℕ) → lanes ≡ 4 → selected lanes sel word < 2 ^ 32
 short-lanes lanes sel word e = let h = selected-lt lanes sel word in let p : 256 ^ lanes ≡ 2 ^ 32 = rw e refl in omega (arith, h, p)
 
-short-pop : (depth : ℕ) (words : List ℕ) (r : Request) → IsShort (popped depth words r).answer
+short-pop : (depth : ℕ) (words : List ℕ) (r : Request) → FitsHalf (popped depth words r).answer
 short-pop depth [] r = tt
 short-pop depth (word ∷ words) r = short-lanes 4 r.sel word refl
 
-short-push : (depth : ℕ) (words : List ℕ) (r : Request) → IsShort (pushed depth words r).answer
+short-push : (depth : ℕ) (words : List ℕ) (r : Request) → FitsHalf (pushed depth words r).answer
 short-push depth words r = short_by (nat_le depth (length words)) (outcome (Fifo depth words) Rty) (outcome (Fifo depth (words ++ r.dat ∷ [])) (Ack 0)) tt (omega arith)
 
-short-count : (depth : ℕ) (words : List ℕ) (r : Request) → IsShort (counted depth words r).answer
+short-count : (depth : ℕ) (words : List ℕ) (r : Request) → FitsHalf (counted depth words r).answer
 short-count depth words r =
     short_by r.write (outcome (Fifo depth words) Err) (outcome (Fifo depth words) (Ack (selected 4 r.sel (length words)))) tt (short-lanes 4 r.sel (length words) refl)
 
-short-device : (content : Content) (r : Request) → IsShort (device W32 content r).answer
+short-device : (content : Content) (r : Request) → FitsHalf (device W32 content r).answer
 short-device Nothing r = tt
 short-device (Ram content) r =
     short_by r.write (outcome (Ram (with_lanes W32 content r)) (Ack 0)) (outcome (Ram content) (lanes_read W32 content r)) (omega arith)
@@ -260,37 +260,37 @@ short-device (Fifo depth words) r =
     short_by (r.adr == 0) (cond r.write (pushed depth words r) (popped depth words r)) (counted depth words r)
     (short_by r.write (pushed depth words r) (popped depth words r) (short-push depth words r) (short-pop depth words r)) (short-count depth words r)
 
-short-stepped : (contents : List Content) (a : Arrival) → a.bus ≡ W32 → a.upper_half ≡ false → IsShort (stepped contents a).answer
+short-stepped : (contents : List Content) (a : Arrival) → a.bus ≡ W32 → a.upper_half ≡ false → FitsHalf (stepped contents a).answer
 unfolding stepped
 short-stepped contents a b h = rw (b, h) (short-device (get_or contents a.place Nothing) a.request)
 
-short-sooner : (owed : List Owed) → AllShort owed → AllShort (map sooner owed)
+short-sooner : (owed : List Owed) → AllFitHalf owed → AllFitHalf (map sooner owed)
 short-sooner [] h = tt
 short-sooner (o ∷ os) h = (h.0, short-sooner os h.1)
 
-short-left_by : (b : Bool) (o : Owed) (os : List Owed) → AllShort (o ∷ os) → AllShort (cond b (map sooner os) (map sooner (o ∷ os)))
+short-left_by : (b : Bool) (o : Owed) (os : List Owed) → AllFitHalf (o ∷ os) → AllFitHalf (cond b (map sooner os) (map sooner (o ∷ os)))
 short-left_by true o os h = short-sooner os h.1
 short-left_by false o os h = short-sooner (o ∷ os) h
 
-short-left : (owed : List Owed) → AllShort owed → AllShort (left owed)
+short-left : (owed : List Owed) → AllFitHalf owed → AllFitHalf (left owed)
 short-left [] h = tt
 short-left (o ∷ os) h = short-left_by (o.due == 0) o os h
 
-short-append : (owed : List Owed) (o : Owed) → AllShort owed → IsShort o.answer → AllShort (owed ++ o ∷ [])
+short-append : (owed : List Owed) (o : Owed) → AllFitHalf owed → FitsHalf o.answer → AllFitHalf (owed ++ o ∷ [])
 short-append [] o h s = (s, tt)
 short-append (p ∷ os) o h s = (h.0, short-append os o h.1 s)
 
-pub short-after : (children : List Child) (contents : List Content) (owed : List Owed) (op : Option Request) → AllOf32 children → AllShort owed → AllShort (owed_after (bus W32 children) contents owed op)
+pub short-after : (children : List Child) (contents : List Content) (owed : List Owed) (op : Option Request) → AllOf32 children → AllFitHalf owed → AllFitHalf (owed_after (bus W32 children) contents owed op)
 short-after children contents owed None w h = short-left owed h
 short-after children contents owed (Some r) w h =
     let b = bus-of children w in
     short-append (left owed) _ (short-left owed h) (short-stepped contents ((bus W32 children).route r) (b.bus r) (b.whole r))
 
-short-given_by : (b : Bool) (answer x : Answer) → cond b (Some answer) None ≡ Some x → IsShort answer → IsShort x
-short-given_by true answer x e h = subst IsShort (cc) h
+short-given_by : (b : Bool) (answer x : Answer) → cond b (Some answer) None ≡ Some x → FitsHalf answer → FitsHalf x
+short-given_by true answer x e h = subst FitsHalf (cc) h
 short-given_by false answer x e h = absurd (cc)
 
-pub short-given : (owed : List Owed) → AllShort owed → ForSome (given owed) IsShort
+pub short-given : (owed : List Owed) → AllFitHalf owed → ForSome (given owed) FitsHalf
 short-given [] h x e = absurd (cc)
 short-given (o ∷ os) h x e = short-given_by (o.due == 0) o.answer x e h.0
 

@@ -21,14 +21,14 @@ AllOf32 [] = Unit {0}
 AllOf32 (child ∷ children) = IsOf32 child.wiring × AllOf32 children
 
 -- A word has 32 bits.
-abbrev pub IsShort : Answer → Type 0
-IsShort (Ack word) = word < 2 ^ 32
-IsShort Err = Unit {0}
-IsShort Rty = Unit {0}
+abbrev pub FitsHalf : Answer → Type 0
+FitsHalf (Ack word) = word < 2 ^ 32
+FitsHalf Err = Unit {0}
+FitsHalf Rty = Unit {0}
 
-abbrev pub AllShort : List Owed → Type 0
-AllShort [] = Unit {0}
-AllShort (o ∷ os) = IsShort o.answer × AllShort os
+abbrev pub AllFitHalf : List Owed → Type 0
+AllFitHalf [] = Unit {0}
+AllFitHalf (o ∷ os) = FitsHalf o.answer × AllFitHalf os
 
 abbrev pub is_upper : Half → Bool
 is_upper Upper = true

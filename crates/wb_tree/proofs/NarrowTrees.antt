@@ -9,7 +9,7 @@ use Rattle.wb_signals.specs.Bus.{Child, bus, Half, Upper, Lower, Both, half_of}
 use Rattle.wb_signals.specs.Slave.{Owed, Slave, owes, given, ticked, is_stalled, owed_after}
 use Rattle.wb_signals.specs.Parts.{Part, child_of, child_at, contents_in, AllFitIn}
 use Rattle.wb_signals.specs.Turn.{bus_slave, owed_by, missed_answer}
-use Rattle.wb_signals.specs.Narrow.{AllOf32, AllShort, IsShort, lost, halved_by, halved, halved_op, one_half, answer_back, uppers_after, narrow_slave}
+use Rattle.wb_signals.specs.Narrow.{AllOf32, AllFitHalf, FitsHalf, lost, halved_by, halved, halved_op, one_half, answer_back, uppers_after, narrow_slave}
 use Rattle.wb_signals.specs.declared.answer.Answer.{Answer}
 use Rattle.wb_signals.specs.declared.debtor.Debtor.TheVariants.{Nobody, Miss, Top}
 use Rattle.wb_signals.proofs.BusLemmas.{Past, past_end, past_over, nat_lt-false}
@@ -153,8 +153,8 @@ module _ (b : Branch) (s : IsSoundBranch b) (w : IsNarrow b) where
   -- a clock, after that of the bus
   module _ (op : Option Request) (v : Branch) (after : branch_slave v ≡ ticked (branch_slave b) (halved_op (branch_children b) op)) (kept : Keeps b v) (sound : IsSoundBranch v)
       (answer : Option Answer) (a : answer ≡ given (branch_slave b).owed) where
-    pub answer_short : ForSome answer IsShort
-    answer_short = subst (λ answer. ForSome answer IsShort) (sym (a ∙ ap given owed_is)) (short-given owed_here w.short)
+    pub answer_short : ForSome answer FitsHalf
+    answer_short = subst (λ answer. ForSome answer FitsHalf) (sym (a ∙ ap given owed_is)) (short-given owed_here w.short)
 
     pub answer_is : answer_back (out-Branch v).uppers.items answer ≡ given (narrow_branch b).owed
     answer_is =
@@ -209,7 +209,7 @@ module _ (b : Branch) (s : IsSoundBranch b) (w : IsNarrow b) where
         width = ap (λ (x : Branch-F Node Branch TreePart). x.width) next_out ∙ kept.width ∙ w.width;
         of = subst AllOf32 (sym (ap (λ (x : Branch-F Node Branch TreePart). map child_of (map part_slave x.parts.items)) next_out ∙ kept.children)) w.of;
         short =
-            subst AllShort (sym (ap (λ (x : Branch-F Node Branch TreePart). owed_by (map part_slave x.parts.items) x.debtor) next_out ∙ owed_next))
+            subst AllFitHalf (sym (ap (λ (x : Branch-F Node Branch TreePart). owed_by (map part_slave x.parts.items) x.debtor) next_out ∙ owed_next))
             (short-after (branch_children b) (contents_in (branch_parts b)) owed_here (halved_op (branch_children b) op) w.of w.short);
         kept =
             ap (λ (x : Branch-F Node Branch TreePart). length x.uppers.items) next_out
@@ -226,7 +226,7 @@ new_narrow b parts n of =
     record {
       width = n.is_width;
       of = subst (λ parts. AllOf32 (map child_of parts)) (sym n.is_parts) of;
-      short = subst AllShort (sym none) tt;
+      short = subst AllFitHalf (sym none) tt;
       kept = ap (λ (u : Buffer Bool). length u.items) n.uppers ∙ sym (ap length none);
       room = ap (λ (u : Buffer Bool). u.capacity) n.uppers;
     }

@@ -94,7 +94,8 @@ impl Branch {
     /// The child that ticks: where the operation goes, or who owes answers.
     fn goes(&self, op: &Option<Op>) -> usize
         ensures goes { result ≡
-            goes (length (branch_parts self.now)) (branch_debtor self.now) (aim_of (branch_children self.now) op.now) op.now }
+            goes (length (branch_parts self.now)) (branch_debtor self.now)
+                (aim_of (branch_children self.now) op.now) op.now }
     {
         let to = aim(&self.parts, op);
         self.debtor.goes(self.parts.len(), to, op)

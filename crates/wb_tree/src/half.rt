@@ -3,7 +3,7 @@ ghost use Rattle.std.specs.Option.{ForSome};
 ghost use Rattle.circular_buffer.specs.Buffer.{buffer};
 ghost use Rattle.wb_signals.specs.Wiring.{lifted};
 ghost use Rattle.wb_signals.specs.Bus.{Upper, Lower, half_of, half};
-ghost use Rattle.wb_signals.specs.Narrow.{IsShort, one_half, answer_back, uppers_left, uppers_with, uppers_after};
+ghost use Rattle.wb_signals.specs.Narrow.{FitsHalf, one_half, answer_back, uppers_left, uppers_with, uppers_after};
 
 use circular_buffer::HeapCircularBuffer;
 use wb_signals::{Answer, Op};
@@ -50,14 +50,14 @@ fn lower(op: &Op) -> Op
     }
 }
 
-/// The answer as it goes back to the half that its operation came from. The half of the operation that passed is kept for
-/// its own answer.
+/// The answer as it goes back to the half that its operation came from. The half of the operation that passed is kept
+/// for its own answer.
 pub fn go_back(
     uppers: &mut HeapCircularBuffer<bool>,
     answer: Option<Answer>,
     op: &Option<Op>,
 ) -> Option<Answer>
-    requires short { ForSome answer IsShort }
+    requires short { ForSome answer FitsHalf }
     requires room { length (uppers_after uppers.old.items answer op.now) ≤ uppers.old.capacity }
     ensures uppers { uppers.new ≡ buffer (uppers_after uppers.old.items answer op.now) uppers.old.capacity }
     ensures answer { result ≡ answer_back uppers.old.items answer }
@@ -69,7 +69,7 @@ pub fn go_back(
 
 /// The answer as it goes back, of which the half is kept no longer.
 fn take_back(uppers: &mut HeapCircularBuffer<bool>, answer: Option<Answer>) -> Option<Answer>
-    requires short { ForSome answer IsShort }
+    requires short { ForSome answer FitsHalf }
     ensures uppers { uppers.new ≡ buffer (uppers_left uppers.old.items answer) uppers.old.capacity }
     ensures answer { result ≡ answer_back uppers.old.items answer }
 {
@@ -84,7 +84,7 @@ fn take_back(uppers: &mut HeapCircularBuffer<bool>, answer: Option<Answer>) -> O
 
 /// An answer whose word goes to the upper half or the lower one.
 fn lifted(upper: bool, answer: Answer) -> Answer
-    requires short { IsShort answer }
+    requires short { FitsHalf answer }
     ensures answer { result ≡ lifted upper answer }
 {
     match (upper, answer) {

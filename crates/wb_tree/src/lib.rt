@@ -1,5 +1,5 @@
-//! Trees of buses, clock by clock. A node is a device, a device behind an adapter, or a bus; a bus has children at ranges of
-//! addresses, and one of 32 data bits may stand behind a port of 64.
+//! Trees of buses, clock by clock. A node is a device, a device behind an adapter, or a bus; a bus has children at
+//! ranges of addresses, and one of 32 data bits may stand behind a port of 64.
 #![tactic(auto)]
 
 mod branch; // a bus
