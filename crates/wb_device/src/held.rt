@@ -44,10 +44,10 @@ impl Held {
         requires taken { is_taken self.old.device op ≡ true }
         ensures standing { held_standing (Some result) ≡
             Some (stands (device_leaf self.old.device self.old.wait true) (self.old.device.content ∷ [])
-                (held_standing self.old.standing) op) }
+            (held_standing self.old.standing) op) }
         ensures content { self.new.device.content ∷ [] ≡
             contents_stood (device_leaf self.old.device self.old.wait true) (self.old.device.content ∷ [])
-                (held_standing self.old.standing) (Some op) }
+            (held_standing self.old.standing) (Some op) }
         ensures bus { self.new.device.bus ≡ self.old.device.bus }
         ensures size { size_of self.new.device.content ≡ size_of self.old.device.content }
         ensures wait { self.new.wait ≡ self.old.wait }

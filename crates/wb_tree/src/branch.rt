@@ -95,7 +95,7 @@ impl Branch {
     fn goes(&self, op: &Option<Op>) -> usize
         ensures goes { result ≡
             goes (length (branch_parts self.now)) (branch_debtor self.now)
-                (aim_of (branch_children self.now) op.now) op.now }
+            (aim_of (branch_children self.now) op.now) op.now }
     {
         let to = aim(&self.parts, op);
         self.debtor.goes(self.parts.len(), to, op)
