@@ -1,6 +1,6 @@
 //! The measure of `answer.sh`: what `eb` does in the same commands, written as one plain Rust program without proofs. It checks
-//! only what it needs; each reply is written by itself, before the next record runs. Like `eb` it keeps a journal of the cycles;
-//! with `--no-journal` as the first word it keeps none.
+//! only what it needs; the replies of a piece are gathered, and written before the next is read. Like `eb` it keeps a journal of
+//! the cycles; with `--no-journal` as the first word it keeps none.
 use std::fs::File;
 use std::io::{Read, Write};
 
@@ -201,13 +201,16 @@ fn answer(bus: Bus, keeps: bool, capture: &str) {
     out.write_all(&[0x4E, 0x6F, 0x14, 0x44]).unwrap();
     let mut session = Session::new(bus, keeps);
     let (mut room, mut held) = (vec![0; 65536 + 4104], 0);
+    let mut replies = Vec::with_capacity(65536 + 4104);
     loop {
         let count = file.read(&mut room[held..held + 65536]).unwrap();
         if count == 0 {
             break;
         }
         let all = held + count;
-        let taken = session.take(&room[..all], |reply| out.write_all(reply).unwrap());
+        replies.clear();
+        let taken = session.take(&room[..all], |reply| replies.extend_from_slice(reply));
+        out.write_all(&replies).unwrap();
         room.copy_within(taken..all, 0);
         held = all - taken;
     }
