@@ -15,7 +15,7 @@ abbrev slave_of : Width → ℕ → Slave
 slave_of bus root = record { bus = bus; root = root }
 
 -- a slave of the described machine, with the root at its ROM, is the described system
-pub system_is : (d : Description) (machine : MachineState) (s : PlainSlave) → IsAccepted d → wiring_of machine ≡ described_wiring d → machine.contents ≡ described_contents d
+pub system_is : {R : Type 0} (d : Description) (machine : MachineState) (s : PlainSlave R) → IsAccepted d → wiring_of machine ≡ described_wiring d → machine.contents ≡ described_contents d
     → IsMade machine d.bus.sdb s → system_of s ≡ described_system d
 system_is d machine s accepted wired held made =
     let same = made.slave_is ∙ ap (λ (w : Width). slave_of w d.bus.sdb) (sym (width_of_sound d.bus accepted.sound)) in

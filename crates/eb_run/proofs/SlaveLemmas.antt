@@ -37,5 +37,5 @@ served_on s old new source source' out out' e is_new began legal served =
     }
 
 -- a slave of a machine of one RAM, without a table
-pub ram_is : (octets : ℕ) (b : PlainSlave) → IsMade (built_with_ram octets) 0 b → system_of b ≡ ram_system octets
+pub ram_is : {R : Type 0} (octets : ℕ) (b : PlainSlave R) → IsMade (built_with_ram octets) 0 b → system_of b ≡ ram_system octets
 ram_is octets b made = λ i. record { slave = made.slave_is i; wiring = wiring_of (made.machine_is i); contents = (made.machine_is i).contents }

@@ -10,22 +10,22 @@ use Rattle.eb_run.specs.Streams.{System}
 use Rattle.eb_run.specs.declared.slave.PlainSlave.{PlainSlave}
 
 -- the slave, and the bus as it was when the session began
-abbrev pub system_of : PlainSlave → System
+abbrev pub system_of : {R : Type 0} → PlainSlave R → System
 system_of s = record { slave = s.session.slave; wiring = wiring_of s.master.began; contents = s.master.began.contents }
 
 -- the entries of its cycles
-abbrev pub entries_of : PlainSlave → List Entry
+abbrev pub entries_of : {R : Type 0} → PlainSlave R → List Entry
 entries_of s = s.master.made
 
 -- No stream was served on it.
-pub record IsNewSlave (s : PlainSlave) : Type 0 where
+pub record IsNewSlave {R : Type 0} (s : PlainSlave R) : Type 0 where
   pub session : s.session ≡ new_session s.session.slave
   pub width : s.session.slave.bus ≡ W32
   pub master : s.master ≡ new_plain s.master.began 0
   pub room : HasRoom s.rooms
 
 -- It was made of this machine and has its root table at this address.
-pub record IsMade (machine : MachineState) (root : ℕ) (s : PlainSlave) : Type 0 where
+pub record IsMade {R : Type 0} (machine : MachineState) (root : ℕ) (s : PlainSlave R) : Type 0 where
   pub fresh : IsNewSlave s
   pub slave_is : s.session.slave ≡ record { bus = W32; root = root }
   pub machine_is : s.master.began ≡ machine

@@ -13,6 +13,7 @@ use eb_io::{Sink, World, put_all};
 use eb_text::{Command, Fault, command_of, write_build};
 use sdb_build::images;
 use soc_machine::Machine;
+use soc_trail::Unkept;
 use std::alloc::Global;
 
 // `answer --ram N CAPTURE`
@@ -31,7 +32,7 @@ fn answer_ram<W: World, O: Sink>(
     let Ok(machine) = Machine::ram(alloc, octets) else {
         return Err(Fault::NoMemory);
     };
-    let Ok(mut slave) = PlainSlave::new(alloc, machine, 0) else {
+    let Ok(mut slave) = PlainSlave::new(alloc, Unkept::new(), machine, 0) else {
         return Err(Fault::NoMemory);
     };
     answer_capture(alloc, capture, world, &mut slave, out)
@@ -53,7 +54,7 @@ fn answer<W: World, O: Sink>(
     let Ok(machine) = Machine::build(alloc, &described) else {
         return Err(Fault::NoMemory);
     };
-    let Ok(mut slave) = PlainSlave::new(alloc, machine, described.bus.sdb) else {
+    let Ok(mut slave) = PlainSlave::new(alloc, Unkept::new(), machine, described.bus.sdb) else {
         return Err(Fault::NoMemory);
     };
     answer_capture(alloc, capture, world, &mut slave, out)

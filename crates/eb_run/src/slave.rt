@@ -1,5 +1,5 @@
 // A slave with the master that it has for itself, on which a stream is served.
-ghost use Rattle.std.specs.Prelude.{◌≡◌, IfOk};
+ghost use Rattle.std.specs.Prelude.{◌≡◌, [], IfOk};
 ghost use Rattle.eb_run.specs.Streams.{ServedOn};
 ghost use Rattle.eb_run.specs.Slave.{IsNewSlave, IsMade, system_of, entries_of};
 
@@ -7,24 +7,32 @@ use eb_base::{NoMemory, Width};
 use eb_io::{Sink, Source};
 use eb_server::{Ending, Rooms, serve};
 use eb_session::{Session, Slave};
-use soc_journal::Journal;
 use soc_machine::{Machine, PlainMaster};
+use soc_trail::Recorder;
 use std::alloc::Global;
 
 // How many octets of a stream are read at once.
 const ROOM: usize = 65_536;
 
-/// A slave on a bus of 32 data bits with the machine behind it, and the rooms of its stream.
+/// A slave on a bus of 32 data bits with the machine behind it, and the rooms of its stream. Its recorder has what
+/// becomes of the bus cycles.
 #[derive(Drop)]
-pub struct PlainSlave {
+pub struct PlainSlave<R: Recorder> {
     session: Session,
-    master: PlainMaster,
+    master: PlainMaster<R>,
     rooms: Rooms,
 }
 
-impl PlainSlave {
-    /// Takes all that a stream needs but the entries of its cycles. The root SDB table stands at the address `root`.
-    pub fn new(alloc: Global, machine: Machine, root: u64) -> Result<PlainSlave, NoMemory>
+impl<R: Recorder> PlainSlave<R> {
+    /// Takes all that a stream needs but what the recorder takes. The root SDB table stands at the address `root`.
+    pub fn new(
+        alloc: Global,
+        recorder: R,
+        machine: Machine,
+        root: u64,
+    ) -> Result<PlainSlave<R>, NoMemory>
+        requires made { R.made recorder ≡ [] }
+        requires opened { R.opened recorder ≡ [] }
         ensures new { IfOk result (IsMade machine root) }
     {
         let bus = Width::W32;
@@ -32,7 +40,7 @@ impl PlainSlave {
         let rooms = Rooms::new(alloc, ROOM)?;
         Ok(PlainSlave {
             session,
-            master: PlainMaster::new(alloc, machine, 0),
+            master: PlainMaster::new(alloc, recorder, machine, 0),
             rooms,
         })
     }
@@ -51,14 +59,14 @@ impl PlainSlave {
             &mut self.rooms,
         );
         // The entries are a legal history.
-        let _ = self.master.journal();
+        let _ = self.master.recorder();
         ending
     }
 
-    /// The entries of the cycles.
-    pub fn journal(&self) -> &Journal
-        ensures entries { result.now.entries ≡ entries_of self.now }
+    /// The recorder with the entries of the cycles.
+    pub fn recorder(&self) -> &R
+        ensures entries { R.made result.now ≡ entries_of self.now }
     {
-        self.master.journal()
+        self.master.recorder()
     }
 }

@@ -11,13 +11,14 @@ use crate::slave::PlainSlave;
 use eb_io::{Opened, Sink, World};
 use eb_server::Ending;
 use eb_text::Fault;
+use soc_trail::Unkept;
 use std::alloc::Global;
 
 // Serves the file that was opened last.
 fn serve_last<W: World, O: Sink>(
     alloc: Global,
     world: &mut W,
-    slave: &mut PlainSlave,
+    slave: &mut PlainSlave<Unkept>,
     out: &mut O,
 ) -> Ending
     requires some { 0 < length (W.outside world.old).files }
@@ -37,7 +38,7 @@ pub fn answer_capture<W: World, O: Sink>(
     alloc: Global,
     capture: &str,
     world: &mut W,
-    slave: &mut PlainSlave,
+    slave: &mut PlainSlave<Unkept>,
     out: &mut O,
 ) -> Result<(), Fault>
     requires new { IsNewSlave slave.old }
