@@ -13,11 +13,19 @@ fn probe_then_header(rt: HostRuntime) -> Result<(), Fail> {
         addresses: 15,
         ports: 7,
     };
-    let mut decoder = Decoder::new(rt.alloc(), sets).ok().ok_or("room")?;
+    let Ok(mut decoder) = Decoder::new(rt.alloc(), sets) else {
+        return Err(Fail::from("room"));
+    };
     let octets = [0x4e, 0x6f, 0x11, 0xff, 0, 0, 0, 7, 0x4e, 0x6f, 0x10, 0x44];
-    let first = decoder.feed(&octets).ok().ok_or("probe")?;
-    let second = decoder.feed(&octets[8..]).ok().ok_or("header")?;
-    let third = decoder.feed(&octets[12..]).ok().ok_or("nothing")?;
+    let Ok(first) = decoder.feed(&octets) else {
+        return Err(Fail::from("probe"));
+    };
+    let Ok(second) = decoder.feed(&octets[8..]) else {
+        return Err(Fail::from("header"));
+    };
+    let Ok(third) = decoder.feed(&octets[12..]) else {
+        return Err(Fail::from("nothing"));
+    };
     assert_eq!(rt; (first.taken, second.taken, third.taken), (8, 4, 0));
     let Item::Probe(probe) = first.item else {
         return Err(Fail::from("a probe"));
