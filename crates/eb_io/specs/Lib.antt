@@ -5,6 +5,7 @@ pub mod Outside
 pub mod Plan
 pub mod Calls
 pub mod MemSource
+pub mod MemLink
 pub mod MemSink
 pub mod CountSink
 pub mod Text

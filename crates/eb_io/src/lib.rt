@@ -1,4 +1,4 @@
-//! The outside as traits: `Source`, `Sink`, `World`, with memory forms that tell their contents, and adapters for
+//! The outside as traits: `Source`, `Sink`, `Link`, `World`, with memory forms that tell their contents, and adapters for
 //! readers and writers of std, real files among them. What an object tells is one ghost record a trait; content that
 //! isn't told makes an equation trivial and never a premise. A call answers `Failed` only where its count of faults
 //! rose, and the other answers leave the counts as before. A text is written in one way: lines that are made in place
@@ -8,6 +8,7 @@
 //! - `sink`: the trait `Sink`, writing a whole text, a sink in memory
 //! - `count`: a sink that counts
 //! - `line`: a line of text, with numbers in decimal and hexadecimal digits
+//! - `link`: the trait `Link`, a link in memory
 //! - `world`: the trait `World`, a world in memory
 //! - `adapters`: readers and writers of std, and the real files
 //! - `shelf`: what a world keeps
@@ -18,6 +19,7 @@ mod adapters;
 mod calls;
 mod count;
 mod line;
+mod link;
 mod shelf;
 mod sink;
 mod source;
@@ -26,6 +28,7 @@ mod world;
 pub use adapters::{ReadSource, RealWorld, WriteSink};
 pub use count::CountSink;
 pub use line::Line;
+pub use link::{Link, MemLink};
 pub use sink::{MemSink, Put, Sink, WriteFault, put_all, put_each};
 pub use source::{Gathered, Got, MemSource, Source, gather};
 pub use world::{MemWorld, Opened, World};

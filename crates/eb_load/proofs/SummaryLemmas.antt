@@ -1,11 +1,11 @@
 -- Totals of operations, and of more of them.
-use Rattle.std.proofs.Common.{◌≡◌, ℕ, take, length, get_or, ◌+◌, ◌%◌, ◌^◌, ◌<◌, Bool, true, false, cond, List, [], ◌∷◌, ◌++◌, refl, sym, ap, ◌∙◌, arith}
+use Rattle.std.proofs.Common.{◌≡◌, ℕ, length, length-append, min, ◌+◌, ◌-◌, ◌%◌, ◌^◌, ◌<◌, Bool, true, false, cond, List, [], ◌∷◌, ◌++◌, refl, sym, ap, ◌∙◌, arith}
 use Rattle.std.specs.List.{sum_by, count_by}
 use Rattle.std.proofs.lemmas.List.Sums.{sum_by-append}
-use Rattle.std.proofs.lemmas.List.{take_more, append-nil}
+use Rattle.std.proofs.lemmas.List.{append-nil}
 use Rattle.std.proofs.lemmas.List.Concat.{flat_map-append}
 use Rattle.wb_signals.specs.History.{Pair, Entry}
-use Rattle.eb_load.specs.declared.summary.Totals.{Totals}
+use Rattle.eb_load.specs.declared.counted.Totals.{Totals}
 use Rattle.eb_load.specs.Summary.{capped, is_write, is_read, is_refused, word_in, word_read, operations, totals, joined}
 
 capped-joined : (a b n : ℕ) → n ≡ a + b → capped (capped a + capped b) ≡ capped n
@@ -44,22 +44,26 @@ one_read p e word is errs got range =
     let s : word ≡ (0 + word_read p) % 2 ^ 64 = rw is (omega arith) in
     λ i. record { writes = w i; reads = r i; errors = f i; sum = s i }
 
--- ---- loops
+-- ---- as they come
 
--- one more operation
-pub one_pair : (all one more : Totals) (pairs : List Pair) (p : Pair) (i : ℕ) → i < length pairs → p ≡ get_or pairs i p → all ≡ totals (take i pairs) → one ≡ totals (p ∷ []) → more ≡ joined all one → more ≡ totals (take (i + 1) pairs)
-one_pair all one more pairs p i lt is so_far this both =
-    let parts = take_more pairs i p lt in
-    let sum = joined-totals (take i pairs) (p ∷ []) in
-    cc
+-- a pair more in the open cycle
+pub pair_added : (opened one more : Totals) (pairs : List Pair) (p : Pair) → opened ≡ totals pairs → one ≡ totals (p ∷ []) → more ≡ joined opened one → more ≡ totals (pairs ++ p ∷ [])
+pair_added opened one more pairs p so_far this both =
+    both ∙ ap (λ (t : Totals). joined t one) so_far ∙ ap (λ (t : Totals). joined (totals pairs) t) this ∙ joined-totals pairs (p ∷ [])
 
 operations-more : (entries : List Entry) (e : Entry) → operations (entries ++ e ∷ []) ≡ operations entries ++ e.pairs
 operations-more entries e =
     flat_map-append (λ (x : Entry). x.pairs) entries (e ∷ []) ∙ ap (λ (l : List Pair). operations entries ++ l) (append-nil e.pairs)
 
--- one more entry
-pub one_entry : (all one more : Totals) (entries : List Entry) (e : Entry) (i : ℕ) → i < length entries → e ≡ get_or entries i e → all ≡ totals (operations (take i entries)) → one ≡ totals e.pairs → more ≡ joined all one → more ≡ totals (operations (take (i + 1) entries))
-one_entry all one more entries e i lt is so_far this both =
-    let parts : take (i + 1) entries ≡ take i entries ++ e ∷ [] = take_more entries i e lt ∙ ap (λ (x : Entry). take i entries ++ x ∷ []) (sym is) in
-    both ∙ ap (λ (t : Totals). joined t one) so_far ∙ ap (λ (t : Totals). joined (totals (operations (take i entries))) t) this ∙ joined-totals (operations (take i entries)) e.pairs
-    ∙ sym (ap (λ (l : List Entry). totals (operations l)) parts ∙ ap totals (operations-more (take i entries) e))
+-- the open cycle ends
+pub cycle_added : (all opened more : Totals) (entries : List Entry) (e : Entry) → all ≡ totals (operations entries) → opened ≡ totals e.pairs → more ≡ joined all opened → more ≡ totals (operations (entries ++ e ∷ []))
+cycle_added all opened more entries e so_far this both =
+    both ∙ ap (λ (t : Totals). joined t opened) so_far ∙ ap (λ (t : Totals). joined (totals (operations entries)) t) this ∙ joined-totals (operations entries) e.pairs
+    ∙ sym (ap totals (operations-more entries e))
+
+pub cycle_counted : (cycles more : ℕ) (entries : List Entry) (e : Entry) → cycles ≡ capped (length entries) → more ≡ min (cycles + 1) (2 ^ 64 - 1) → more ≡ capped (length (entries ++ e ∷ []))
+cycle_counted cycles more entries e so_far is = omega (arith, so_far, is, length-append entries (e ∷ []))
+
+pub nothing_yet : record { writes = 0; reads = 0; errors = 0; sum = 0 } ≡ totals []
+unfolding totals
+nothing_yet = refl

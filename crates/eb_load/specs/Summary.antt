@@ -4,7 +4,7 @@ use Rattle.wb_signals.specs.History.{Pair, Entry}
 use Rattle.wb_signals.specs.declared.answer.Answer.{Answer}
 use Rattle.wb_signals.specs.declared.answer.Answer.TheVariants.{Ack, Err, Rty}
 use Rattle.eb_io.specs.Text.{line, digits_16}
-use Rattle.eb_load.specs.declared.summary.Totals.{Totals}
+use Rattle.eb_load.specs.declared.counted.Totals.{Totals}
 use Rattle.eb_load.specs.declared.summary.Summary.{Summary}
 
 -- all operations of the entries with their answers, in order

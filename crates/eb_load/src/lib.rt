@@ -7,15 +7,18 @@
 //! - `draws`: the numbers that a stream is made of
 //! - `record`: the octets of its records
 //! - `source`: the stream as a source
+//! - `counted`: cycles that are counted as they end
 //! - `summary`: what is counted of a run, and its text
 //! - `laws`: what holds of each generated stream
 #![tactic(auto)]
 
+mod counted;
 mod draws;
 pub mod laws;
 mod record;
 mod source;
 mod summary;
 
+pub use counted::Counted;
 pub use source::LoadSource;
 pub use summary::Summary;

@@ -1,12 +1,12 @@
 // What is counted of a run, and its text.
-ghost use Rattle.std.specs.Prelude.{◌≡◌, ◌≤◌, ◌+◌, ◌++◌, ◌∷◌, [], length, decimal, if◌then◌else◌};
+ghost use Rattle.std.specs.Prelude.{◌≡◌, ◌≤◌, ◌+◌, ◌++◌, length, decimal};
 ghost use Rattle.eb_io.specs.Text.{line};
 ghost use Rattle.eb_io.specs.Writing.{Wrote};
-ghost use Rattle.eb_load.specs.Summary.{is_refusal, word_in, totals, joined, operations, summary, summary_text};
+ghost use Rattle.eb_load.specs.Summary.{summary, summary_text};
 
+use crate::counted::Counted;
 use eb_io::{Line, Sink, WriteFault, put_all};
-use soc_journal::{Entry, Journal, Pair};
-use wb_signals::Answer;
+use soc_trail::Recorder;
 
 /// What is counted of a run: its cycles, and of their operations the writes, the reads and those answered ERR or RTY;
 /// the octets that came in and went out; and the sum of the words read, modulo 2^64.
@@ -23,96 +23,8 @@ pub struct Summary {
     pub sum: u64,
 }
 
-// What is counted of operations.
-#[derive(Clone, Copy)]
-struct Totals {
-    writes: u64,
-    reads: u64,
-    errors: u64,
-    sum: u64,
-}
-
-const NOTHING: Totals = Totals {
-    writes: 0,
-    reads: 0,
-    errors: 0,
-    sum: 0,
-};
-
 // The text of a summary: seven lines, of which the longest has 32 octets.
 type Text = Line<200>;
-
-// How many refusals an answer is: one or none.
-fn refusals(answer: Answer) -> u64
-    ensures value { result ≡ (if is_refusal answer then 1 else 0) }
-{
-    match answer {
-        Answer::Ack(_) => 0,
-        Answer::Err => 1,
-        Answer::Rty => 1,
-    }
-}
-
-fn word_in(answer: Answer) -> u64
-    ensures value { result ≡ word_in answer }
-{
-    match answer {
-        Answer::Ack(word) => word,
-        Answer::Err => 0,
-        Answer::Rty => 0,
-    }
-}
-
-fn totals_of_pair(pair: &Pair) -> Totals
-    ensures value { result ≡ totals (pair.now ∷ []) }
-{
-    let errors = refusals(pair.answer);
-    if pair.op.write {
-        Totals {
-            writes: 1,
-            errors,
-            ..NOTHING
-        }
-    } else {
-        Totals {
-            reads: 1,
-            errors,
-            sum: word_in(pair.answer),
-            ..NOTHING
-        }
-    }
-}
-
-fn joined(a: Totals, b: Totals) -> Totals
-    ensures value { result ≡ joined a b }
-{
-    Totals {
-        writes: a.writes.saturating_add(b.writes),
-        reads: a.reads.saturating_add(b.reads),
-        errors: a.errors.saturating_add(b.errors),
-        sum: a.sum.wrapping_add(b.sum),
-    }
-}
-
-fn totals_of_pairs(pairs: &[Pair]) -> Totals
-    ensures value { result ≡ totals pairs.now }
-{
-    let mut all = NOTHING;
-    for pair in pairs {
-        all = joined(all, totals_of_pair(pair));
-    }
-    all
-}
-
-fn totals_of_entries(entries: &[Entry]) -> Totals
-    ensures value { result ≡ totals (operations entries.now) }
-{
-    let mut all = NOTHING;
-    for entry in entries {
-        all = joined(all, totals_of_pairs(entry.pairs.as_slice()));
-    }
-    all
-}
 
 // Adds a line with a name and a count.
 fn put_count(out: &mut Text, name: &[u8], count: u64)
@@ -142,19 +54,19 @@ fn text(summary: &Summary) -> Text
 }
 
 impl Summary {
-    /// The summary of a run whose cycles are in the journal, which took and gave so many octets.
-    pub fn of(journal: &Journal, octets_in: u64, octets_out: u64) -> Summary
-        ensures value { result ≡ summary journal.now.entries octets_in octets_out }
+    /// The summary of a run whose cycles were counted, which took and gave so many octets.
+    pub fn of<R: Recorder>(counted: &Counted<R>, octets_in: u64, octets_out: u64) -> Summary
+        ensures value { result ≡ summary (R.made counted.now.recorder) octets_in octets_out }
     {
-        let all = totals_of_entries(journal.entries());
+        let ended = counted.ended();
         Summary {
-            cycles: journal.len() as u64,
-            writes: all.writes,
-            reads: all.reads,
+            cycles: counted.cycles(),
+            writes: ended.writes,
+            reads: ended.reads,
             octets_in,
             octets_out,
-            errors: all.errors,
-            sum: all.sum,
+            errors: ended.errors,
+            sum: ended.sum,
         }
     }
 

@@ -8,11 +8,11 @@ ghost use Rattle.eb_run.specs.Commands.{MakesText, Summed};
 use crate::slave::PlainSlave;
 use eb_base::NoMemory;
 use eb_io::{CountSink, Sink};
-use eb_load::{LoadSource, Summary};
+use eb_load::{Counted, LoadSource, Summary};
 use eb_server::Ending;
 use eb_text::Fault;
 use soc_machine::Machine;
-use soc_trail::Kept;
+use soc_trail::Unkept;
 use std::alloc::Global;
 
 // How many octets the RAM has.
@@ -23,7 +23,7 @@ fn summary_of(
     alloc: Global,
     start: u32,
     cycles: u32,
-    slave: &mut PlainSlave<Kept>,
+    slave: &mut PlainSlave<Counted<Unkept>>,
 ) -> Result<Summary, NoMemory>
     requires made { IsMade (built_with_ram 65536) 0 slave.old }
     ensures summed { IfOk result (λ s. Summed start cycles (summary_text s)) }
@@ -31,11 +31,7 @@ fn summary_of(
     let mut source = LoadSource::new(start, cycles);
     let mut replies = CountSink::new();
     match slave.serve(&mut source, &mut replies) {
-        Ending::Clean => Ok(Summary::of(
-            slave.recorder().journal(),
-            source.given(),
-            replies.count(),
-        )),
+        Ending::Clean => Ok(Summary::of(slave.recorder(), source.given(), replies.count())),
         Ending::NoMemory => Err(NoMemory),
         Ending::WriteFault => unreachable!(),
         Ending::Truncated(_) => unreachable!(),
@@ -52,7 +48,7 @@ pub fn load<O: Sink>(alloc: Global, start: u32, cycles: u32, out: &mut O) -> Res
     let Ok(machine) = Machine::ram(alloc, RAM) else {
         return Err(Fault::NoMemory);
     };
-    let Ok(mut slave) = PlainSlave::new(alloc, Kept::new(alloc), machine, 0) else {
+    let Ok(mut slave) = PlainSlave::new(alloc, Counted::new(Unkept::new()), machine, 0) else {
         return Err(Fault::NoMemory);
     };
     let Ok(summary) = summary_of(alloc, start, cycles, &mut slave) else {

@@ -1,6 +1,5 @@
 use Rattle.std.proofs.Common.{◌≡◌, ◌^◌, ◌<◌, List, refl, sym, ◌∙◌, ap, subst, arith}
 use Rattle.wb_signals.specs.History.{Entry}
-use Rattle.soc_journal.specs.Journal.{JournalState}
 use Rattle.eb_io.specs.CountSink.{writing_of}
 use Rattle.eb_server.specs.declared.ending.Ending.{Ending}
 use Rattle.eb_load.specs.LoadSource.{load_reading}
@@ -25,7 +24,7 @@ returns-in-Clean c =
     let clean = subst (λ (e : Ending). ServedOn (ram_system 65536) source source' out out' entries e) c.in-Clean.is served in
     let sum = summed c.args.start c.args.cycles source source' out out' entries small (c.new-source.ensures.tells, c.new-replies.ensures.tells) refl refl c.given.result c.count.result clean c.given.ensures.count c.count.ensures.count in
     let journal : summary entries c.given.result c.count.result ≡ c.of.result =
-    ap (λ (l : List Entry). summary l c.given.result c.count.result) (sym (ap (λ (j : JournalState). j.entries) c.journal.ensures.journal ∙ c.recorder.ensures.entries)) ∙ sym c.of.ensures.value in
+    ap (λ (l : List Entry). summary l c.given.result c.count.result) (sym c.recorder.ensures.entries) ∙ sym c.of.ensures.value in
     record { summed = subst (λ (s : Summary). Summed c.args.start c.args.cycles (summary_text s)) journal sum }
 
 pub unreachable-requires : goal.unreachable-requires

@@ -1,7 +1,7 @@
 use Rattle.std.proofs.Common.{rules, ◌≡◌, true, false, cond}
 use Rattle.eb_load.specs.Summary.{is_refused, word_in}
 use Rattle.eb_load.proofs.SummaryLemmas.{one_write, one_read}
-use Rattle.eb_load.proofs.summary.totals_of_pair.Goals as goal
+use Rattle.eb_load.proofs.counted.totals_of_pair.Goals as goal
 
 pub returns-then-pair : goal.returns-then-pair
 returns-then-pair c =

@@ -4,7 +4,7 @@ use Rattle.eb_io.specs.Writing.{Took, WroteFront}
 use Rattle.eb_server.specs.declared.ending.Ending.{Ending}
 use Rattle.eb_server.specs.Piece.{ServesPiece}
 use Rattle.eb_server.proofs.PieceLemmas.{told_end, stopped_after, failed_by}
-use Rattle.eb_server.proofs.serving.serve_piece.Goals as goal
+use Rattle.eb_server.proofs.piece.serve_piece.Goals as goal
 
 pub returns-then-is_err-clause-served : goal.returns-then-is_err-clause-served
 returns-then-is_err-clause-served g c =
