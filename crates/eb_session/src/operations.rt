@@ -24,19 +24,6 @@ fn narrowed(width: Width, n: u64) -> u64
     }
 }
 
-// Adds an operation for which there is room.
-fn push(ops: &mut Vec<Op>, op: Op)
-    requires room { vec_len ops.old + 1 ≤ vec_capacity ops.old }
-    ensures items { ops.new.items ≡ ops.old.items ++ op ∷ [] }
-    ensures len { vec_len ops.new ≡ vec_len ops.old + 1 }
-    ensures capacity { vec_capacity ops.old ≤ vec_capacity ops.new }
-{
-    match ops.push(op) {
-        Ok(()) => {}
-        Err(_) => unreachable!(),
-    }
-}
-
 // An access of a port as an operation on the bus.
 #[tactic(auto, unfolding(wb_signals::specs::Request::placed))]
 fn access(port: Width, bus: Width, write: bool, adr: u64, dat: u64, sel: u8) -> Op
@@ -122,7 +109,7 @@ fn put_writes(bus: Width, view: &RecordView<'_>, count: usize, ops: &mut Vec<Op>
 {
     let base = view.write_base();
     for i in 0..count {
-        push(ops, write_op(bus, view, base, i));
+        ops.push_reserved(write_op(bus, view, base, i));
     }
 }
 
@@ -138,7 +125,7 @@ fn put_reads(bus: Width, view: &RecordView<'_>, count: usize, ops: &mut Vec<Op>)
     ensures fit { AllFitBus bus ops.new.items }
 {
     for i in 0..count {
-        push(ops, read_op(bus, view, i));
+        ops.push_reserved(read_op(bus, view, i));
     }
 }
 

@@ -120,10 +120,9 @@ impl Session {
     /// asked of the master in one call of its `record`, the writes first; no other item asks it. The session takes no
     /// memory itself.
     ///
-    /// `Malformed` comes exactly where the piece has an octet that no stream has there, and names the first;
-    /// `NoMemory` only where the master answered it to a whole record, of which nothing ran. After an `End` the open
-    /// cycle was cut, the register is as it was, and each later `feed` and `finish` answers the same `End` and asks
-    /// nothing.
+    /// `Malformed` comes exactly where the piece has an octet that no stream has there, and names the first; `NoMemory`
+    /// at a whole record that asked the master, of which nothing ran. After an `End` the open cycle was cut, the
+    /// register is as it was, and each later `feed` and `finish` answers the same `End` and asks nothing.
     pub fn feed<M: Master>(
         &mut self,
         alloc: Global,
