@@ -3,6 +3,7 @@ ghost use Rattle.eb_base.specs.declared.width.Width.TheVariants.{W32};
 ghost use Rattle.eb_session.specs.Keeping.{new_session};
 
 use crate::no_room::NoRoom;
+use crate::samples::{CAPTURE, REPLY};
 use eb_base::Width;
 use eb_io::{MemLink, MemSink, MemSource};
 use eb_server::{Ending, Rooms, serve, serve_stream};
@@ -11,16 +12,6 @@ use soc_machine::{Machine, PlainMaster};
 use soc_trail::Unkept;
 use std::alloc::Global;
 use std::test::Fail;
-
-// A write of a word of a RAM, and a read of it.
-const CAPTURE: [u8; 28] = [
-    0x4E, 0x6F, 0x10, 0x44, 0x08, 0x0F, 0x01, 0x00, 0x00, 0x00, 0x00, 0x10, 0xDE, 0xAD, 0xBE, 0xEF,
-    0x88, 0x0F, 0x00, 0x01, 0x00, 0x00, 0x00, 0x00, 0x00, 0x00, 0x00, 0x10,
-];
-
-const REPLY: [u8; 16] = [
-    0x4E, 0x6F, 0x14, 0x44, 0x0C, 0x0F, 0x01, 0x00, 0x00, 0x00, 0x00, 0x00, 0xDE, 0xAD, 0xBE, 0xEF,
-];
 
 fn session_of(alloc: Global) -> Result<Session, Fail>
     ensures fresh { IfOk result (λ s. s ≡ new_session (record { bus = W32; root = 0 })) }
