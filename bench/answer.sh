@@ -1,6 +1,6 @@
 #!/usr/bin/env bash
 # Times the built program on large captures, a generated load and a large description, and plain.rs on the same, in one run:
-# with the journal of the cycles that `eb` keeps, and without one.
+# without a journal of the cycles, as `eb` does it, and with one.
 # Prints for each the best of three runs: seconds, octets of the capture a second, and the greatest memory held, which is
 # never less than what this script itself holds, about 20 MiB.
 # Wants python3, and rustc for plain.rs, which is passed over where there is none.
@@ -94,7 +94,7 @@ for title, command, octets in runs:
     seen = set()
     runs_of = [("eb", programs[:1])]
     if len(programs) > 1:
-        runs_of += [("plain", programs[1:]), ("no journal", [*programs[1:], "--no-journal"])]
+        runs_of += [("plain", programs[1:]), ("journal", [*programs[1:], "--journal"])]
     for name, program in runs_of:
         line, output = measured([*program, *command], octets)
         seen.add(output)

@@ -1,6 +1,6 @@
 //! The measure of `answer.sh`: what `eb` does in the same commands, written as one plain Rust program without proofs. It checks
-//! only what it needs; the replies of a piece are gathered, and written before the next is read. Like `eb` it keeps a journal of
-//! the cycles; with `--no-journal` as the first word it keeps none.
+//! only what it needs; the replies of a piece are gathered, and written before the next is read. Like `eb` it keeps no
+//! journal of the cycles; with `--journal` as the first word it does.
 use std::fs::File;
 use std::io::{Read, Write};
 
@@ -463,8 +463,8 @@ fn description(name: &str) -> Json {
 fn main() {
     let words: Vec<String> = std::env::args().skip(1).collect();
     let mut words: Vec<&str> = words.iter().map(String::as_str).collect();
-    let keeps = words.first() != Some(&"--no-journal");
-    if !keeps {
+    let keeps = words.first() == Some(&"--journal");
+    if keeps {
         words.remove(0);
     }
     match words[..] {
