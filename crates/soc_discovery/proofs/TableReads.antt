@@ -22,6 +22,8 @@ use Rattle.sdb_walk.specs.Told.{Word, Exchange}
 use Rattle.sdb_walk.specs.Walk.{Walk, Reads, Ended, answered, after, after_word, exchanges, asked}
 use Rattle.sdb_walk.proofs.Goes.{Goes, arrived, one_more, HasOctets}
 use Rattle.sdb_walk.proofs.Octets.{Octet, bytes_of}
+use Rattle.sdb_walk.proofs.Reached.{after_end, exchanges_end}
+use Rattle.sdb_walk.proofs.OneEnd.{word_first, others_of}
 use Rattle.soc_discovery.specs.Law.{read_at, word_read, read_all, addresses}
 use Rattle.soc_discovery.proofs.Roms.{Shows}
 
@@ -100,22 +102,6 @@ module _ (C : Type 0) (wiring : Wiring) (contents : List Content) where
       (λ i. let x : Exchange C = record { adr = adr; word = has.1 i } in x ∷ read_all wiring (has.0 i) (addresses later)) in
       (Ok word ∷ more.0, ap (λ (xs : List (Exchange C)). first ∷ xs) more.1 ∙ sym read_now, more.2)
 
-  after_end : (r : Result (List Found) (WalkFault C)) (words : List (Word C)) → after (Ended r) words ≡ Ended r
-  after_end r [] = refl
-  after_end r (word ∷ words) = after_end r words
-
-  none_after : (r : Result (List Found) (WalkFault C)) (words : List (Word C)) → exchanges (Ended r) words ≡ []
-  none_after r [] = refl
-  none_after r (word ∷ words) = refl
-
-  abbrev word_first : Word C → List (Exchange C) → Word C
-  word_first d [] = d
-  word_first d (x ∷ xs) = x.word
-
-  abbrev others_of : List (Exchange C) → List (Exchange C)
-  others_of [] = []
-  others_of (x ∷ xs) = xs
-
   pub no_other : (u v : Walk C) → Goes C Has u v → (end : Result (List Found) (WalkFault C)) → v ≡ Ended end → (words : List (Word C)) → AreReadsFrom u words
       → (r : Result (List Found) (WalkFault C)) → after u words ≡ Ended r → Ended r ≡ v
   no_other u v (arrived x) end is words reads r e =
@@ -131,7 +117,7 @@ module _ (C : Type 0) (wiring : Wiring) (contents : List Content) where
 
   pub unchanged : (u v : Walk C) → Goes C Has u v → (end : Result (List Found) (WalkFault C)) → v ≡ Ended end → (words : List (Word C)) → AreReadsFrom u words
       → contents_after wiring contents (map read_at (addresses (exchanges u words))) ≡ contents
-  unchanged u v (arrived x) end is words reads = ap (λ (w : Walk C). contents_after wiring contents (map read_at (addresses (exchanges w words)))) is ∙ ap (λ (xs : List (Exchange C)). contents_after wiring contents (map read_at (addresses xs))) (none_after end words)
+  unchanged u v (arrived x) end is words reads = ap (λ (w : Walk C). contents_after wiring contents (map read_at (addresses (exchanges w words)))) is ∙ ap (λ (xs : List (Exchange C)). contents_after wiring contents (map read_at (addresses xs))) (exchanges_end end words)
   unchanged u v (one_more visit read visits begun tree word w has rest) end is [] reads = refl
   unchanged u v (one_more visit read visits begun tree word w has rest) end is (a ∷ words) reads =
       let own : Walk C = Reads visit read visits begun tree in

@@ -1,5 +1,5 @@
 -- The law of discovery.
-use Rattle.std.proofs.Common.{◌≡◌, ℕ, ◌+◌, List, [], ◌∷◌, ◌++◌, Result, Ok, Err, Some, Option, unwrap_or, inl, inr, refl, sym, ap, ◌∙◌, subst, arith, All}
+use Rattle.std.proofs.Common.{◌≡◌, ℕ, ◌+◌, List, [], ◌∷◌, ◌++◌, Result, Ok, Err, inl, inr, refl, sym, ap, ◌∙◌, subst, arith, All}
 use Rattle.soc_desc.specs.declared.description.Description.{Description}
 use Rattle.soc_desc.specs.declared.description.ItemDescription.TheViews.{out-BusDescription}
 use Rattle.soc_desc.specs.Accepted.{IsAccepted}
@@ -8,8 +8,9 @@ use Rattle.sdb_build.specs.Buses.{buses_of}
 use Rattle.sdb_walk.specs.declared.found.Found.{Found}
 use Rattle.sdb_walk.specs.declared.fault.WalkFault.{WalkFault}
 use Rattle.sdb_walk.specs.Told.{Exchange}
-use Rattle.sdb_walk.specs.Walk.{Walk, Reads, Ended, exchanges, max_address, goes_on, first_of}
+use Rattle.sdb_walk.specs.Walk.{Ended, exchanges, max_address, goes_on, first_of}
 use Rattle.sdb_walk.proofs.Goes.{Goes}
+use Rattle.sdb_walk.proofs.OneEnd.{same_rest, some_same, result_of}
 use Rattle.soc_machine.specs.Described.{described_wiring, described_contents}
 use Rattle.soc_discovery.specs.Tree.{tree_of}
 use Rattle.soc_discovery.specs.Law.{begins_on, AreReads, read_all, addresses, Discovered, OnlyDiscovered, ReaderDiscovers, LeftAsBuilt}
@@ -38,24 +39,9 @@ module _ (C : Type 0) (d : Description) (accepted : IsAccepted d) where
 pub discovered : (C : Type 0) → Discovered C
 discovered C d accepted = some_words C (described_wiring d) (described_contents d) (begins_on C d) (Ended (Ok (tree_of d))) (whole_walk C d accepted)
 
-abbrev result_of : {C : Type 0} → Result (List Found) (WalkFault C) → Walk C → Result (List Found) (WalkFault C)
-result_of r (Reads visit words visits begun tree) = r
-result_of r (Ended e) = e
-
 pub only_discovered : (C : Type 0) → OnlyDiscovered C
 only_discovered C d accepted words reads result ended =
     ap (result_of result) (no_other C (described_wiring d) (described_contents d) (begins_on C d) (Ended (Ok (tree_of d))) (whole_walk C d accepted) (Ok (tree_of d)) refl words reads result ended)
-
--- what was added to a list is what was added
-same_rest : {X : Type 0} (xs ys zs : List X) → xs ++ ys ≡ xs ++ zs → ys ≡ zs
-same_rest [] ys zs e = e
-same_rest (x ∷ xs) ys zs e = same_rest xs ys zs (ap (λ l. tail_of l) e) where
-  tail_of : {X : Type 0} → List X → List X
-  tail_of [] = []
-  tail_of (x ∷ l) = l
-
-some_same : {X : Type 0} (d x y : X) → Some x ≡ Some y → x ≡ y
-some_same d x y e = ap (λ (o : Option _). unwrap_or o d) e
 
 pub reader_discovers : (C : Type 0) → ReaderDiscovers C
 reader_discovers C d accepted before after_ more (Ok tree) found parts reads =
