@@ -1,14 +1,15 @@
-ghost use Rattle.std.specs.Prelude.{IfSome, None, ◌≡◌, ◌≤◌, ◌<◌, ◌+◌, length};
+ghost use Rattle.std.specs.Prelude.{IfSome, Some, ◌≡◌, ◌≤◌, ◌<◌, ◌+◌, length};
 ghost use Rattle.sdb_record.specs.Relation.{IsValid};
 
 use eb_base::{Name, Product, get32};
 use sdb_record::{Record, RecordFault, RecordWhy, encode};
-use sdb_walk::{Found, NoWord, WalkFault, WordReader, discover};
+use sdb_walk::{Exchange, Found, NoWord, WalkFault, WordReader, discover};
+use soc_trail::Trail;
 use std::alloc::Global;
 use std::test::Fail;
 
 /// Octets at the addresses from `first` on. The word at `refused` is an error of the bus, and that at `broken` the
-/// cause 7. It counts the words that it was asked for.
+/// cause 7. It counts the words that it was asked for, and tells them.
 #[derive(Drop)]
 struct Memory {
     first: u64,
@@ -16,15 +17,12 @@ struct Memory {
     refused: u64,
     broken: u64,
     asked: u64,
+    told: Trail<Exchange<u8>>,
 }
 
-impl WordReader for Memory {
-    type Cause = u8;
-
-    ghost told = { λ _. None };
-
-    fn word(&mut self, adr: u64) -> Result<u32, NoWord<u8>> {
-        self.asked = self.asked.saturating_add(1);
+impl Memory {
+    /// The word at an address.
+    fn answer(&self, adr: u64) -> Result<u32, NoWord<u8>> {
         if adr == self.broken {
             return Err(NoWord::Cause(7));
         }
@@ -33,6 +31,19 @@ impl WordReader for Memory {
             return Err(NoWord::BusError);
         }
         Ok(get32(&self.octets, (adr - self.first) as usize))
+    }
+}
+
+impl WordReader for Memory {
+    type Cause = u8;
+
+    ghost told = { λ memory. Some memory.told };
+
+    fn word(&mut self, adr: u64) -> Result<u32, NoWord<u8>> {
+        let word = self.answer(adr);
+        self.asked = self.asked.saturating_add(1);
+        self.told.push(Exchange { adr, word });
+        word
     }
 }
 
@@ -329,6 +340,7 @@ fn walked(alloc: Global, row: &Row) -> Result<(Option<WalkFault<u8>>, u64), Fail
         refused: row.refused,
         broken: row.broken,
         asked: 0,
+        told: Trail::new(),
     };
     let fault = discover(alloc, &mut memory, row.root).err();
     Ok((fault, memory.asked))
@@ -402,6 +414,7 @@ fn tree_of_four_levels(rt: HostRuntime) -> Result<(), Fail> {
         refused: NOWHERE,
         broken: NOWHERE,
         asked: 0,
+        told: Trail::new(),
     };
     let tree = match discover(alloc, &mut memory, 0) {
         Ok(tree) => tree,

@@ -3,7 +3,8 @@ use Rattle.std.proofs.Common.{◌≡◌, ◌⊎◌, inl, inr, ℕ, List, [], ◌
 use Rattle.sdb_walk.specs.declared.found.Found.{Found}
 use Rattle.sdb_walk.specs.declared.fault.WalkFault.{WalkFault}
 use Rattle.sdb_walk.specs.declared.fault.WalkFault.TheVariants as fault
-use Rattle.sdb_walk.specs.Told.{Word, Exchange}
+use Rattle.sdb_walk.specs.declared.reader.Exchange.{Exchange}
+use Rattle.sdb_walk.specs.Told.{Word}
 use Rattle.sdb_walk.specs.Walk.{Walk, Reads, Ended, answered, after, exchanges, begins}
 use Rattle.sdb_walk.specs.Discovery.{Reaches, Discovers}
 use Rattle.sdb_walk.specs.Laws.{OneResult}

@@ -6,7 +6,7 @@ use Rattle.sdb_walk.specs.declared.table.Table.{Table}
 use Rattle.sdb_walk.specs.declared.found.Found.{Found}
 use Rattle.sdb_walk.specs.declared.fault.WalkFault.{WalkFault}
 use Rattle.sdb_walk.specs.declared.fault.WalkFault.TheVariants as fault
-use Rattle.sdb_walk.specs.Told.{Exchange}
+use Rattle.sdb_walk.specs.declared.reader.Exchange.{Exchange}
 use Rattle.sdb_walk.specs.Walk.{Walk, goes_on, leads_to, counted, found_at, path_of}
 use Rattle.sdb_walk.specs.Tables.{visit_in, rest_of, steps_of, visits_of}
 use Rattle.sdb_walk.specs.Discovery.{Reaches, EndsBy, Fails, ReadsOne}

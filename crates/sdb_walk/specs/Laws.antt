@@ -3,7 +3,7 @@ use Rattle.std.specs.Prelude.{◌≡◌, ◌⊎◌, ℕ, List, Result, Err, Some
 use Rattle.sdb_walk.specs.declared.found.Found.{Found}
 use Rattle.sdb_walk.specs.declared.fault.WalkFault.{WalkFault}
 use Rattle.sdb_walk.specs.declared.fault.WalkFault.TheVariants as fault
-use Rattle.sdb_walk.specs.Told.{Exchange}
+use Rattle.sdb_walk.specs.declared.reader.Exchange.{Exchange}
 use Rattle.sdb_walk.specs.Discovery.{Discovers}
 
 -- What a reader told before and after decides the result of discovery, but for want of memory.

@@ -18,7 +18,8 @@ use Rattle.sdb_build.specs.Buses.{PlacedBus}
 use Rattle.sdb_build.specs.Laws.{table_address}
 use Rattle.sdb_walk.specs.declared.found.Found.{Found}
 use Rattle.sdb_walk.specs.declared.fault.WalkFault.{WalkFault}
-use Rattle.sdb_walk.specs.Told.{Word, Exchange}
+use Rattle.sdb_walk.specs.declared.reader.Exchange.{Exchange}
+use Rattle.sdb_walk.specs.Told.{Word}
 use Rattle.sdb_walk.specs.Walk.{Walk, Reads, Ended, answered, after, after_word, exchanges, asked}
 use Rattle.sdb_walk.proofs.Goes.{Goes, arrived, one_more, HasOctets}
 use Rattle.sdb_walk.proofs.Octets.{Octet, bytes_of}

@@ -7,7 +7,7 @@ use Rattle.soc_desc.proofs.Sound.{top_of_sound}
 use Rattle.sdb_build.specs.Buses.{buses_of}
 use Rattle.sdb_walk.specs.declared.found.Found.{Found}
 use Rattle.sdb_walk.specs.declared.fault.WalkFault.{WalkFault}
-use Rattle.sdb_walk.specs.Told.{Exchange}
+use Rattle.sdb_walk.specs.declared.reader.Exchange.{Exchange}
 use Rattle.sdb_walk.specs.Walk.{Ended, exchanges, max_address, goes_on, first_of}
 use Rattle.sdb_walk.proofs.Goes.{Goes}
 use Rattle.sdb_walk.proofs.OneEnd.{same_rest, some_same, result_of}

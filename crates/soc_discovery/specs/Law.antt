@@ -17,7 +17,8 @@ use Rattle.sdb_walk.specs.declared.fault.WalkFault.{WalkFault}
 use Rattle.sdb_walk.specs.declared.fault.WalkFault.TheVariants as fault
 use Rattle.sdb_walk.specs.declared.reader.NoWord.TheVariants as no_word
 use Rattle.sdb_walk.specs.Discovery.{Discovers}
-use Rattle.sdb_walk.specs.Told.{Word, Exchange}
+use Rattle.sdb_walk.specs.declared.reader.Exchange.{Exchange}
+use Rattle.sdb_walk.specs.Told.{Word}
 use Rattle.sdb_walk.specs.Walk.{Walk, Ended, begins, after, exchanges}
 use Rattle.soc_discovery.specs.Tree.{tree_of}
 
