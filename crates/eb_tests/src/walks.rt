@@ -394,15 +394,7 @@ static FOUND: [(&[u16], u64, u64); 9] = [
 
 /// Whether a record was found by this way, with this range.
 fn is_found(one: &Found, path: &[u16], first: u64, last: u64) -> bool {
-    if one.path.len() != path.len() || one.first != first || one.last != last {
-        return false;
-    }
-    for i in 0..path.len() {
-        if i >= one.path.len() || *one.path.get(i) != path[i] {
-            return false;
-        }
-    }
-    true
+    one.path.as_slice() == path && one.first == first && one.last == last
 }
 
 #[test]
@@ -421,9 +413,8 @@ fn tree_of_four_levels(rt: HostRuntime) -> Result<(), Fail> {
         Err(_) => return Err(Fail::from("walk")),
     };
     assert!(rt; tree.len() == FOUND.len() && memory.asked == 144);
-    for i in 0..FOUND.len() {
-        let (path, first, last) = FOUND[i];
-        assert!(rt; i < tree.len() && is_found(tree.get(i), path, first, last));
+    for (one, (path, first, last)) in tree.as_slice().iter().zip(FOUND.iter()) {
+        assert!(rt; is_found(one, path, *first, *last));
     }
     Ok(())
 }
