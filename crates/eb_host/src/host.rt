@@ -1,0 +1,302 @@
+ghost use Rattle.std.specs.Prelude.{◌≡◌, ◌<◌, ◌≤◌, ◌^◌, [], length, All, None, nat_lt, vec_capacity, ◌∷◌, ◌/◌, IfOk, MatchResult, true, false};
+ghost use Rattle.eb_base.specs.Width.{octets, bit, AreSets};
+ghost use Rattle.eb_host.specs.Opening.{Opened, NotOpened};
+ghost use Rattle.eb_codec.specs.Form.{Fills};
+ghost use Rattle.eb_host.specs.Asks.{FitsOp, expects, closing, cycle_records};
+ghost use Rattle.eb_host.specs.Answers.{answered, joined};
+ghost use Rattle.eb_host.specs.Exchange.{duplex};
+ghost use Rattle.eb_host.specs.View.{link_of, address_of, port_of, sent_header, kept_of};
+ghost use Rattle.eb_host.specs.Host.{too_wide as too_wide_in, Sends, Answers, Cycles, Rooted, Roots, given, alone};
+
+use crate::asks::{put_closing, put_cycle};
+use crate::exchange::exchange;
+use crate::expected::{expect_closing, expect_cycle};
+use crate::link::Link;
+use crate::op::{HostAnswer, HostFault, HostOp};
+use crate::opening::shake;
+use crate::replies::{closing_at, joined_at, put_answers};
+use eb_base::{NoMemory, Width, Widths};
+use eb_codec::Header;
+use eb_codec::sizes::unit_len;
+use std::alloc::Global;
+
+/// The host at one end of a link.
+#[derive(Drop)]
+pub struct Host<L> {
+    link: L,
+    address: Width,
+    port: Width,
+    read: u64,
+    fault: Option<HostFault>,
+}
+
+// Whether an address has no more than so many bits.
+fn is_narrow(width: Width, adr: u64) -> bool
+    ensures { result ≡ nat_lt adr (256 ^ octets width) }
+{
+    match width {
+        Width::W8 => adr < 0x100,
+        Width::W16 => adr < 0x1_0000,
+        Width::W32 => adr < 0x1_0000_0000,
+        Width::W64 => true,
+    }
+}
+
+// The first address that is too wide.
+fn too_wide(header: Header, ops: &[HostOp]) -> Option<u64>
+    ensures { result ≡ too_wide_in header ops.now }
+{
+    for i in 0..ops.len() {
+        if !is_narrow(header.address, ops[i].adr) {
+            return Some(ops[i].adr);
+        }
+    }
+    None
+}
+
+impl<L: Link> Host<L> {
+    /// Opens a link (Etherbone 1.0): it probes for the widths of the slave with these sets, chooses the greatest address width and
+    /// the greatest port width that both have, and sends the header.
+    ///
+    /// After a fault the link is handed back. Want of memory comes before anything is sent.
+    pub fn open(alloc: Global, link: L, widths: Widths) -> Result<Host<L>, (L, HostFault)>
+        requires sets { AreSets widths }
+        requires some_addresses { 0 < widths.addresses }
+        requires some_ports { 0 < widths.ports }
+        ensures opens { MatchResult result (λ host. Opened widths (duplex (L.reading link) (L.writing link)) (duplex (L.reading (link_of host)) (L.writing (link_of host))) (address_of host) (port_of host) (kept_of host))
+            (λ e. NotOpened widths (duplex (L.reading link) (L.writing link)) (duplex (L.reading e.0) (L.writing e.0)) e.1) }
+    {
+        let mut first = match Vec::with_capacity(alloc, 8) {
+            Ok(first) => first,
+            Err(_) => return Err((link, HostFault::NoMemory)),
+        };
+        let mut second = match Vec::with_capacity(alloc, 8) {
+            Ok(second) => second,
+            Err(_) => return Err((link, HostFault::NoMemory)),
+        };
+        let mut link = link;
+        match shake(&mut link, widths, &mut first, &mut second) {
+            Ok(header) => Ok(Host {
+                link,
+                address: header.address,
+                port: header.port,
+                read: 8 + unit_len(header) as u64,
+                fault: None,
+            }),
+            Err(fault) => Err((link, fault)),
+        }
+    }
+
+    /// The widths that were chosen, as width bits.
+    pub fn widths(&self) -> Widths
+        ensures widths { result ≡ record { addresses = bit (address_of self.now); ports = bit (port_of self.now) } }
+    {
+        Widths {
+            addresses: self.address.bit(),
+            ports: self.port.bit(),
+        }
+    }
+
+    // Sends octets, reads those that are expected, and keeps a fault.
+    fn send(
+        &mut self,
+        asks: &[u8],
+        expected: &[Option<u8>],
+        heard: &mut Vec<u8>,
+    ) -> Result<(), HostFault>
+        requires empty { heard.old.items ≡ [] }
+        requires room { length expected.now ≤ vec_capacity heard.old }
+        ensures sends { Sends asks.now expected.now (duplex (L.reading (link_of self.old)) (L.writing (link_of self.old))) (duplex (L.reading (link_of self.new)) (L.writing (link_of self.new))) (kept_of self.old) (kept_of self.new) heard.new.items result }
+        ensures widths { sent_header self.new ≡ sent_header self.old }
+    {
+        match exchange(&mut self.link, asks, expected, heard, self.read) {
+            Ok(()) => {
+                self.read = self.read.saturating_add(heard.len() as u64);
+                Ok(())
+            }
+            Err(fault) => {
+                self.fault = Some(fault);
+                Err(fault)
+            }
+        }
+    }
+
+    // A cycle whose addresses have the address width, where no fault is kept.
+    fn narrow_cycle(&mut self, alloc: Global, ops: &[HostOp]) -> Result<Vec<HostAnswer>, HostFault>
+        requires most { length ops.now ≤ 64 }
+        requires fit { All (FitsOp (sent_header self.old)) ops.now }
+        ensures answers { Answers (sent_header self.old) ops.now (duplex (L.reading (link_of self.old)) (L.writing (link_of self.old))) (duplex (L.reading (link_of self.new)) (L.writing (link_of self.new))) (kept_of self.old) (kept_of self.new) (given result) }
+        ensures count { IfOk result (λ answers. length answers.items ≡ length ops.now) }
+        ensures widths { sent_header self.new ≡ sent_header self.old }
+    {
+        let header = Header {
+            no_reply: false,
+            address: self.address,
+            port: self.port,
+        };
+        let mut asks = Vec::new(alloc);
+        match put_cycle(alloc, header, ops, &mut asks) {
+            Ok(()) => {}
+            Err(NoMemory) => return Err(HostFault::NoMemory),
+        }
+        let mut expected = Vec::new(alloc);
+        match expect_cycle(&mut expected, header, ops) {
+            Ok(()) => {}
+            Err(NoMemory) => return Err(HostFault::NoMemory),
+        }
+        let mut heard = match Vec::with_capacity(alloc, expected.len()) {
+            Ok(heard) => heard,
+            Err(_) => return Err(HostFault::NoMemory),
+        };
+        let mut answers = match Vec::with_capacity(alloc, ops.len()) {
+            Ok(answers) => answers,
+            Err(_) => return Err(HostFault::NoMemory),
+        };
+        match self.send(&asks, &expected, &mut heard) {
+            Ok(()) => {}
+            Err(fault) => return Err(fault),
+        }
+        take_answers(header, ops, &heard, &mut answers);
+        Ok(answers)
+    }
+
+    /// Runs operations as one cycle (Etherbone 1.0), and answers each: the word that was read, 0 for a write, or an error of the
+    /// bus.
+    ///
+    /// A fault of the link or of a reply is kept, and answered from then on. An address that is wider than the chosen address
+    /// width, and want of memory, come before anything is sent, and are not kept.
+    pub fn cycle(&mut self, alloc: Global, ops: &[HostOp]) -> Result<Vec<HostAnswer>, HostFault>
+        requires least { 0 < length ops.now }
+        requires most { length ops.now ≤ 64 }
+        requires fit { All (λ op. op.dat < 256 ^ octets (port_of self.old)) ops.now }
+        ensures cycles { Cycles (sent_header self.old) ops.now (duplex (L.reading (link_of self.old)) (L.writing (link_of self.old))) (duplex (L.reading (link_of self.new)) (L.writing (link_of self.new))) (kept_of self.old) (kept_of self.new) (kept_of self.old).fault (given result) }
+        ensures count { IfOk result (λ answers. length answers.items ≡ length ops.now) }
+        ensures widths { sent_header self.new ≡ sent_header self.old }
+    {
+        if let Some(fault) = self.fault {
+            return Err(fault);
+        }
+        let header = Header {
+            no_reply: false,
+            address: self.address,
+            port: self.port,
+        };
+        if let Some(adr) = too_wide(header, ops) {
+            return Err(HostFault::TooWide(adr));
+        }
+        self.narrow_cycle(alloc, ops)
+    }
+
+    // A cycle of one operation.
+    fn one(&mut self, alloc: Global, op: HostOp) -> Result<HostAnswer, HostFault>
+        requires fit { op.dat < 256 ^ octets (port_of self.old) }
+        ensures cycles { Cycles (sent_header self.old) (op ∷ []) (duplex (L.reading (link_of self.old)) (L.writing (link_of self.old))) (duplex (L.reading (link_of self.new)) (L.writing (link_of self.new))) (kept_of self.old) (kept_of self.new) (kept_of self.old).fault (alone result) }
+        ensures widths { sent_header self.new ≡ sent_header self.old }
+    {
+        match self.cycle(alloc, &[op]) {
+            Ok(answers) => Ok(answers[0]),
+            Err(fault) => Err(fault),
+        }
+    }
+
+    /// Reads a word, as a cycle of its own.
+    pub fn read(&mut self, alloc: Global, adr: u64) -> Result<HostAnswer, HostFault>
+        ensures cycles { Cycles (sent_header self.old) (record { write = false; adr = adr; dat = 0 } ∷ []) (duplex (L.reading (link_of self.old)) (L.writing (link_of self.old))) (duplex (L.reading (link_of self.new)) (L.writing (link_of self.new))) (kept_of self.old) (kept_of self.new) (kept_of self.old).fault (alone result) }
+        ensures widths { sent_header self.new ≡ sent_header self.old }
+    {
+        self.one(
+            alloc,
+            HostOp {
+                write: false,
+                adr,
+                dat: 0,
+            },
+        )
+    }
+
+    /// Writes a word, as a cycle of its own.
+    pub fn write(&mut self, alloc: Global, adr: u64, dat: u64) -> Result<HostAnswer, HostFault>
+        requires fit { dat < 256 ^ octets (port_of self.old) }
+        ensures cycles { Cycles (sent_header self.old) (record { write = true; adr = adr; dat = dat } ∷ []) (duplex (L.reading (link_of self.old)) (L.writing (link_of self.old))) (duplex (L.reading (link_of self.new)) (L.writing (link_of self.new))) (kept_of self.old) (kept_of self.new) (kept_of self.old).fault (alone result) }
+        ensures widths { sent_header self.new ≡ sent_header self.old }
+    {
+        self.one(
+            alloc,
+            HostOp {
+                write: true,
+                adr,
+                dat,
+            },
+        )
+    }
+
+    /// The address of the root table, from configuration space.
+    pub fn root(&mut self, alloc: Global) -> Result<u64, HostFault>
+        ensures roots { Roots (sent_header self.old) (duplex (L.reading (link_of self.old)) (L.writing (link_of self.old))) (duplex (L.reading (link_of self.new)) (L.writing (link_of self.new))) (kept_of self.old) (kept_of self.new) (kept_of self.old).fault result }
+        ensures widths { sent_header self.new ≡ sent_header self.old }
+    {
+        if let Some(fault) = self.fault {
+            return Err(fault);
+        }
+        self.ask_root(alloc)
+    }
+
+    // The same where no fault is kept.
+    fn ask_root(&mut self, alloc: Global) -> Result<u64, HostFault>
+        ensures rooted { Rooted (sent_header self.old) (duplex (L.reading (link_of self.old)) (L.writing (link_of self.old))) (duplex (L.reading (link_of self.new)) (L.writing (link_of self.new))) (kept_of self.old) (kept_of self.new) result }
+        ensures widths { sent_header self.new ≡ sent_header self.old }
+    {
+        let header = Header {
+            no_reply: false,
+            address: self.address,
+            port: self.port,
+        };
+        let mut asks = Vec::new(alloc);
+        match put_closing(alloc, header, 8, &mut asks) {
+            Ok(()) => {}
+            Err(NoMemory) => return Err(HostFault::NoMemory),
+        }
+        let mut expected = Vec::new(alloc);
+        match expect_closing(&mut expected, header, 8) {
+            Ok(()) => {}
+            Err(NoMemory) => return Err(HostFault::NoMemory),
+        }
+        let mut heard = match Vec::with_capacity(alloc, expected.len()) {
+            Ok(heard) => heard,
+            Err(_) => return Err(HostFault::NoMemory),
+        };
+        match self.send(&asks, &expected, &mut heard) {
+            Ok(()) => {}
+            Err(fault) => return Err(fault),
+        }
+        Ok(take_root(header, &heard))
+    }
+
+    /// The link.
+    pub fn into_link(self) -> L
+        ensures link { result ≡ link_of self }
+    {
+        self.link
+    }
+}
+
+// The number in the reply to the record that reads 8 octets.
+fn take_root(header: Header, heard: &[u8]) -> u64
+    requires fills { Fills heard.now (expects header (closing header 8 ∷ [])) }
+    ensures { result ≡ joined header heard.now 0 (8 / octets header.port) }
+{
+    joined_at(header, heard, 0)
+}
+
+// The answers of a cycle from its replies.
+fn take_answers(header: Header, ops: &[HostOp], heard: &[u8], answers: &mut Vec<HostAnswer>)
+    requires most { length ops.now ≤ 64 }
+    requires fills { Fills heard.now (expects header (cycle_records header ops.now)) }
+    requires empty { answers.old.items ≡ [] }
+    requires room { length ops.now ≤ vec_capacity answers.old }
+    ensures same { answers.new.items ≡ answered header ops.now heard.now }
+    ensures count { length answers.new.items ≡ length ops.now }
+{
+    let errors = joined_at(header, heard, closing_at(header, ops));
+    put_answers(header, ops, heard, errors, answers);
+}
