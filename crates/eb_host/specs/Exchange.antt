@@ -1,4 +1,4 @@
--- Octets sent, and octets read in reply.
+-- Octets sent over a link, and octets read in reply.
 use Rattle.std.specs.Prelude.{◌≡◌, ℕ, ◌+◌, ◌-◌, ◌^◌, ◌<◌, min, List, length, Result, Ok, Err}
 use Rattle.std.specs.Bool.{⊤}
 use Rattle.std.specs.Io.KnownBytes.{IsAtEnd}
@@ -13,7 +13,7 @@ use Rattle.eb_host.specs.Hearing.{HasHeard, IsBad}
 abbrev pub capped : ℕ → ℕ
 capped n = min n (2 ^ 64 - 1)
 
--- what a link tells
+-- What a link tells of both directions.
 pub record Duplex : Type 0 where
   pub reading : Reading
   pub writing : Writing
@@ -21,16 +21,20 @@ pub record Duplex : Type 0 where
 abbrev pub duplex : Reading → Writing → Duplex
 duplex reading writing = record { reading = reading; writing = writing }
 
--- All was sent, and these octets came: all that are expected, or up to a fault. So many octets were read before.
+-- What sending these octets and reading those that are expected did, by its answer; so many octets were read before.
+--   Ok         all went out, and all that are expected came
+--   LinkWrite  a front went out, then a write failed, and nothing was read
+--   LinkRead   all went out, then some came that are expected, fewer than all, and a read failed
+--   Ended      all went out, then so many came that are expected, fewer than all, and nothing is left
+--   BadReply   all went out, and of those that came this is the first that no expected reply has
 abbrev pub Exchanges : Duplex → Duplex → List ℕ → Form → ℕ → List ℕ → Result ⊤ HostFault → Type 0
-Exchanges old new asks expected read heard (Ok done) = Took old.writing new.writing asks × Gave old.reading new.reading heard × Fills heard expected
-Exchanges old new asks expected read heard (Err fault.LinkWrite) = WroteFront old.writing new.writing asks × (new.reading ≡ old.reading)
-Exchanges old new asks expected read heard (Err fault.LinkRead) =
-    (mid : Reading) × Took old.writing new.writing asks × HasHeard old.reading mid expected heard × (length heard < length expected) × ReadFailed mid new.reading
-Exchanges old new asks expected read heard (Err (fault.Ended n)) =
-    Took old.writing new.writing asks × HasHeard old.reading new.reading expected heard × (length heard < length expected) × IsAtEnd new.reading.left × (n ≡ capped (read + length heard))
-Exchanges old new asks expected read heard (Err (fault.BadReply p)) =
-    (place : ℕ) × Took old.writing new.writing asks × Gave old.reading new.reading heard × IsBad heard expected place × (p ≡ capped (read + place))
-Exchanges old new asks expected read heard (Err (fault.NoCommonWidth widths)) = ⊥
-Exchanges old new asks expected read heard (Err (fault.TooWide adr)) = ⊥
-Exchanges old new asks expected read heard (Err fault.NoMemory) = ⊥
+Exchanges old new asked expected read heard (Ok done) = Took old.writing new.writing asked × Gave old.reading new.reading heard × Fills heard expected
+Exchanges old new asked expected read heard (Err fault.LinkWrite) = WroteFront old.writing new.writing asked × (new.reading ≡ old.reading)
+Exchanges old new asked expected read heard (Err fault.LinkRead) =
+    (mid : Reading) × Took old.writing new.writing asked × HasHeard old.reading mid expected heard × (length heard < length expected) × ReadFailed mid new.reading
+Exchanges old new asked expected read heard (Err (fault.Ended n)) =
+    Took old.writing new.writing asked × HasHeard old.reading new.reading expected heard × (length heard < length expected) × IsAtEnd new.reading.left
+    × (n ≡ capped (read + length heard))
+Exchanges old new asked expected read heard (Err (fault.BadReply p)) =
+    (at : ℕ) × Took old.writing new.writing asked × Gave old.reading new.reading heard × IsBad heard expected at × (p ≡ capped (read + at))
+Exchanges old new asked expected read heard (Err _) = ⊥

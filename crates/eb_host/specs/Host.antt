@@ -1,10 +1,11 @@
--- What a call of a host does.
-use Rattle.std.specs.Prelude.{◌≡◌, ◌⊎◌, ℕ, ◌+◌, ◌^◌, ◌/◌, if◌then◌else◌, nat_lt, List, [], ◌∷◌, length, Result, Ok, Err, Option, Some, None, false}
+-- What a host keeps, and what its calls do.
+use Rattle.std.specs.Prelude.{◌≡◌, ◌⊎◌, ℕ, ◌+◌, ◌^◌, ◌/◌, if◌then◌else◌, nat_lt, List, [], ◌∷◌, length, Result, Ok, Err, Option, Some, None, MatchOption, false}
 use Rattle.std.specs.Bool.{⊤}
 use Rattle.std.specs.Global.{Vec}
 use Rattle.eb_base.specs.declared.width.Width.{Width}
 use Rattle.eb_base.specs.Width.{octets}
 use Rattle.eb_codec.specs.declared.item.Header.{Header}
+use Rattle.eb_codec.specs.declared.item.Record.{Record}
 use Rattle.eb_codec.specs.Form.{Form}
 use Rattle.eb_host.specs.declared.op.HostOp.{HostOp}
 use Rattle.eb_host.specs.declared.op.HostAnswer.{HostAnswer}
@@ -14,48 +15,50 @@ use Rattle.eb_host.specs.Asks.{asks, expects, closing, cycle_records}
 use Rattle.eb_host.specs.Answers.{answered, joined}
 use Rattle.eb_host.specs.Exchange.{Duplex, Exchanges, capped}
 
--- the header of a host: replies are wanted
-abbrev pub header : Width → Width → Header
-header address port = record { no_reply = false; address = address; port = port }
-
--- What a host keeps beside its link: how many octets it read, and its first fault.
-pub record Kept : Type 0 where
+-- A host as contracts see it: what its link tells, the header that it sent, how many octets it read, and the fault that it
+-- keeps.
+pub record HostState : Type 0 where
+  pub link : Duplex
+  pub header : Header
   pub read : ℕ
   pub fault : Option HostFault
 
-abbrev pub kept : ℕ → Option HostFault → Kept
-kept read fault = record { read = read; fault = fault }
+-- the header of a host, which wants replies
+abbrev pub header : Width → Width → Header
+header address port = record { no_reply = false; address = address; port = port }
 
 -- the first address that is wider than the address width
 abbrev pub too_wide : Header → List HostOp → Option ℕ
 too_wide h [] = None
 too_wide h (op ∷ ops) = if nat_lt op.adr (256 ^ octets h.address) then too_wide h ops else Some op.adr
 
--- nothing was sent or read
-pub record Nothing (old new : Duplex) (before after : Kept) : Type 0 where
-  pub duplex : new ≡ old
-  pub kept : after ≡ before
+-- Octets were sent, and those that are expected came, or there was a fault, which is kept.
+abbrev pub Sends : List ℕ → Form → HostState → HostState → List ℕ → Result ⊤ HostFault → Type 0
+Sends asked expected old new heard (Ok done) =
+    Exchanges old.link new.link asked expected old.read heard (Ok done) × (new ≡ record old { link = new.link; read = capped (old.read + length heard) })
+Sends asked expected old new heard (Err f) =
+    Exchanges old.link new.link asked expected old.read heard (Err f) × (new ≡ record old { link = new.link; fault = Some f })
 
--- Octets were sent, and those that are expected came, or a fault, which is kept.
-abbrev pub Sends : List ℕ → Form → Duplex → Duplex → Kept → Kept → List ℕ → Result ⊤ HostFault → Type 0
-Sends asked expected old new before after heard (Ok done) =
-    Exchanges old new asked expected before.read heard (Ok done) × (after ≡ kept (capped (before.read + length heard)) before.fault)
-Sends asked expected old new before after heard (Err f) = Exchanges old new asked expected before.read heard (Err f) × (after.fault ≡ Some f)
+-- The call answers this fault, and nothing was sent, read or kept.
+abbrev pub Declines : {A : Type 0} → HostState → HostState → Result A HostFault → HostFault → Type 0
+Declines old new result f = (result ≡ Err f) × (new ≡ old)
 
--- A cycle, where no fault is kept and no address is too wide: the answers are those of the replies; or nothing was sent for want of
--- memory; or the exchange has a fault.
-abbrev pub Answers : Header → List HostOp → Duplex → Duplex → Kept → Kept → Result (List HostAnswer) HostFault → Type 0
-Answers h ops old new before after (Ok given) = (heard : List ℕ) × Sends (asks h (cycle_records h ops)) (expects h (cycle_records h ops)) old new before after heard (Ok tt) × (given ≡ answered h ops heard)
-Answers h ops old new before after (Err f) = ((f ≡ fault.NoMemory) × Nothing old new before after) ⊎ ((heard : List ℕ) × Sends (asks h (cycle_records h ops)) (expects h (cycle_records h ops)) old new before after heard (Err f))
+-- A call that sends these records: its answer is taken from the octets that came; or there was a fault, which is kept; or
+-- there was no memory, and nothing was sent.
+abbrev pub Calls : {A : Type 0} → List Record → (List ℕ → A) → HostState → HostState → Result A HostFault → Type 0
+Calls rs taken old new (Ok a) =
+    (heard : List ℕ) × Sends (asks old.header rs) (expects old.header rs) old new heard (Ok tt) × (a ≡ taken heard)
+Calls rs taken old new (Err f) =
+    ((f ≡ fault.NoMemory) × (new ≡ old)) ⊎ ((heard : List ℕ) × Sends (asks old.header rs) (expects old.header rs) old new heard (Err f))
 
--- a fault is kept and answered again; else an address may be too wide
-abbrev pub Narrows : Header → List HostOp → Duplex → Duplex → Kept → Kept → Option ℕ → Result (List HostAnswer) HostFault → Type 0
-Narrows h ops old new before after (Some adr) result = (result ≡ Err (fault.TooWide adr)) × Nothing old new before after
-Narrows h ops old new before after None result = Answers h ops old new before after result
-
-abbrev pub Cycles : Header → List HostOp → Duplex → Duplex → Kept → Kept → Option HostFault → Result (List HostAnswer) HostFault → Type 0
-Cycles h ops old new before after (Some f) result = (result ≡ Err f) × Nothing old new before after
-Cycles h ops old new before after None result = Narrows h ops old new before after (too_wide h ops) result
+-- A cycle of operations. A fault that is kept is answered again; else the first address that is too wide is answered; else
+-- the records of the cycle are sent.
+abbrev pub RunsCycle : HostState → HostState → List HostOp → Result (List HostAnswer) HostFault → Type 0
+RunsCycle old new ops result = MatchOption old.fault
+    (MatchOption (too_wide old.header ops)
+    (Calls (cycle_records old.header ops) (answered old.header ops) old new result)
+    (λ adr. Declines old new result (fault.TooWide adr)))
+    (λ f. Declines old new result f)
 
 -- the answers of a result
 abbrev pub given : Result (Vec HostAnswer) HostFault → Result (List HostAnswer) HostFault
@@ -67,11 +70,12 @@ abbrev pub alone : Result HostAnswer HostFault → Result (List HostAnswer) Host
 alone (Ok answer) = Ok (answer ∷ [])
 alone (Err f) = Err f
 
--- The 8 octets at 8 in configuration space, where no fault is kept.
-abbrev pub Rooted : Header → Duplex → Duplex → Kept → Kept → Result ℕ HostFault → Type 0
-Rooted h old new before after (Ok root) = (heard : List ℕ) × Sends (asks h (closing h 8 ∷ [])) (expects h (closing h 8 ∷ [])) old new before after heard (Ok tt) × (root ≡ joined h heard 0 (8 / octets h.port))
-Rooted h old new before after (Err f) = ((f ≡ fault.NoMemory) × Nothing old new before after) ⊎ ((heard : List ℕ) × Sends (asks h (closing h 8 ∷ [])) (expects h (closing h 8 ∷ [])) old new before after heard (Err f))
+-- the number that the reply to the record that reads the address of the root table carries
+abbrev pub root_in : Header → List ℕ → ℕ
+root_in h heard = joined h heard 0 (8 / octets h.port)
 
-abbrev pub Roots : Header → Duplex → Duplex → Kept → Kept → Option HostFault → Result ℕ HostFault → Type 0
-Roots h old new before after (Some f) result = (result ≡ Err f) × Nothing old new before after
-Roots h old new before after None result = Rooted h old new before after result
+-- The address of the root table is asked for, where no fault is kept.
+abbrev pub ReadsRoot : HostState → HostState → Result ℕ HostFault → Type 0
+ReadsRoot old new result = MatchOption old.fault
+    (Calls (closing old.header 8 ∷ []) (root_in old.header) old new result)
+    (λ f. Declines old new result f)

@@ -1,24 +1,23 @@
--- A host as contracts see it.
-use Rattle.eb_base.specs.declared.width.Width.{Width}
+-- A host as contracts see it. Its link is any, so what that tells is given by two functions.
 use Rattle.eb_codec.specs.declared.item.Header.{Header}
+use Rattle.eb_io.specs.Reading.{Reading}
+use Rattle.eb_io.specs.Writing.{Writing}
 use Rattle.eb_host.specs.declared.host.Host.{Host}
-use Rattle.eb_host.specs.Host.{Kept, kept, header}
+use Rattle.eb_host.specs.Exchange.{duplex}
+use Rattle.eb_host.specs.Host.{HostState, header}
 
 -- its link
 abbrev pub link_of : {L : Type 0} → Host L → L
 link_of host = host.link
 
--- the widths that were chosen
-abbrev pub address_of : {L : Type 0} → Host L → Width
-address_of host = host.address
-
-abbrev pub port_of : {L : Type 0} → Host L → Width
-port_of host = host.port
-
 -- the header that it sent
 abbrev pub sent_header : {L : Type 0} → Host L → Header
 sent_header host = header host.address host.port
 
--- how many octets it read, and the fault that it keeps
-abbrev pub kept_of : {L : Type 0} → Host L → Kept
-kept_of host = kept host.read host.fault
+abbrev pub host_state : {L : Type 0} → (L → Reading) → (L → Writing) → Host L → HostState
+host_state reading writing host = record {
+  link = duplex (reading host.link) (writing host.link);
+  header = sent_header host;
+  read = host.read;
+  fault = host.fault;
+}

@@ -18,7 +18,8 @@ pub fn exchange<L: Link>(
 ) -> Result<(), HostFault>
     requires empty { heard.old.items ≡ [] }
     requires room { length expected.now ≤ vec_capacity heard.old }
-    ensures exchanges { Exchanges (duplex (L.reading link.old) (L.writing link.old)) (duplex (L.reading link.new) (L.writing link.new)) asks.now expected.now read heard.new.items result }
+    ensures exchanges { Exchanges (duplex (L.reading link.old) (L.writing link.old))
+        (duplex (L.reading link.new) (L.writing link.new)) asks.now expected.now read heard.new.items result }
 {
     match put_all(link, asks) {
         Ok(()) => {}
@@ -26,7 +27,7 @@ pub fn exchange<L: Link>(
     }
     match hear(link, expected, heard) {
         Heard::Whole => Ok(()),
-        Heard::Bad(place) => Err(HostFault::BadReply(read.saturating_add(place as u64))),
+        Heard::Bad(at) => Err(HostFault::BadReply(read.saturating_add(at as u64))),
         Heard::Ended(count) => Err(HostFault::Ended(read.saturating_add(count as u64))),
         Heard::Failed => Err(HostFault::LinkRead),
     }

@@ -1,12 +1,14 @@
-ghost use Rattle.std.specs.Prelude.{◌≡◌, ◌<◌, ◌≤◌, ◌^◌, [], length, All, None, nat_lt, vec_capacity, ◌∷◌, ◌/◌, IfOk, MatchResult, true, false};
+//! The host: it opens a link, runs cycles, and keeps its first fault.
+
+ghost use Rattle.std.specs.Prelude.{◌≡◌, ◌<◌, ◌≤◌, ◌^◌, [], length, All, nat_lt, vec_capacity, ◌∷◌, ◌/◌, IfOk, MatchResult, true, false};
 ghost use Rattle.eb_base.specs.Width.{octets, bit, AreSets};
-ghost use Rattle.eb_host.specs.Opening.{Opened, NotOpened};
 ghost use Rattle.eb_codec.specs.Form.{Fills};
 ghost use Rattle.eb_host.specs.Asks.{FitsOp, expects, closing, cycle_records};
 ghost use Rattle.eb_host.specs.Answers.{answered, joined};
 ghost use Rattle.eb_host.specs.Exchange.{duplex};
-ghost use Rattle.eb_host.specs.View.{link_of, address_of, port_of, sent_header, kept_of};
-ghost use Rattle.eb_host.specs.Host.{too_wide as too_wide_in, Sends, Answers, Cycles, Rooted, Roots, given, alone};
+ghost use Rattle.eb_host.specs.Host.{too_wide as too_wide_in, header as header_with, Sends, Calls, RunsCycle, ReadsRoot, root_in, given, alone};
+ghost use Rattle.eb_host.specs.Opening.{Opened, NotOpened};
+ghost use Rattle.eb_host.specs.View.{link_of, sent_header, host_state};
 
 use crate::asks::{put_closing, put_cycle};
 use crate::exchange::exchange;
@@ -20,7 +22,10 @@ use eb_codec::Header;
 use eb_codec::sizes::unit_len;
 use std::alloc::Global;
 
-/// The host at one end of a link.
+/// The host at one end of a link, which a slave of Etherbone 1.0 serves at the other.
+///
+/// Contracts see it as a `HostState`: what its link tells, the header that it sent, how many octets it read, and the fault
+/// that it keeps.
 #[derive(Drop)]
 pub struct Host<L> {
     link: L,
@@ -30,7 +35,7 @@ pub struct Host<L> {
     fault: Option<HostFault>,
 }
 
-// Whether an address has no more than so many bits.
+// Whether an address has no more bits than the width.
 fn is_narrow(width: Width, adr: u64) -> bool
     ensures { result ≡ nat_lt adr (256 ^ octets width) }
 {
@@ -55,16 +60,19 @@ fn too_wide(header: Header, ops: &[HostOp]) -> Option<u64>
 }
 
 impl<L: Link> Host<L> {
-    /// Opens a link (Etherbone 1.0): it probes for the widths of the slave with these sets, chooses the greatest address width and
-    /// the greatest port width that both have, and sends the header.
+    /// Opens a link: it asks the slave for its widths by a probe with these sets of width bits, chooses the greatest width
+    /// of addresses and the greatest width of the port that both have, sends the header, and reads its answer.
     ///
-    /// After a fault the link is handed back. Want of memory comes before anything is sent.
+    /// Neither set is empty. `NoCommonWidth` comes exactly where a set of the slave's answer has no width in common, and
+    /// then no header was sent. After a fault the link is handed back. `NoMemory` comes before anything is sent.
     pub fn open(alloc: Global, link: L, widths: Widths) -> Result<Host<L>, (L, HostFault)>
         requires sets { AreSets widths }
         requires some_addresses { 0 < widths.addresses }
         requires some_ports { 0 < widths.ports }
-        ensures opens { MatchResult result (λ host. Opened widths (duplex (L.reading link) (L.writing link)) (duplex (L.reading (link_of host)) (L.writing (link_of host))) (address_of host) (port_of host) (kept_of host))
-            (λ e. NotOpened widths (duplex (L.reading link) (L.writing link)) (duplex (L.reading e.0) (L.writing e.0)) e.1) }
+        ensures opens { MatchResult result
+            (λ host. Opened widths (duplex (L.reading link) (L.writing link)) (host_state L.reading L.writing host))
+            (λ e. NotOpened widths (duplex (L.reading link) (L.writing link))
+            (duplex (L.reading e.0) (L.writing e.0)) e.1) }
     {
         let mut first = match Vec::with_capacity(alloc, 8) {
             Ok(first) => first,
@@ -89,11 +97,25 @@ impl<L: Link> Host<L> {
 
     /// The widths that were chosen, as width bits.
     pub fn widths(&self) -> Widths
-        ensures widths { result ≡ record { addresses = bit (address_of self.now); ports = bit (port_of self.now) } }
+        ensures widths { result ≡ record {
+          addresses = bit (sent_header self.now).address;
+          ports = bit (sent_header self.now).port;
+        } }
     {
         Widths {
             addresses: self.address.bit(),
             ports: self.port.bit(),
+        }
+    }
+
+    // The header that was sent.
+    fn header(&self) -> Header
+        ensures { result ≡ sent_header self.now }
+    {
+        Header {
+            no_reply: false,
+            address: self.address,
+            port: self.port,
         }
     }
 
@@ -106,8 +128,9 @@ impl<L: Link> Host<L> {
     ) -> Result<(), HostFault>
         requires empty { heard.old.items ≡ [] }
         requires room { length expected.now ≤ vec_capacity heard.old }
-        ensures sends { Sends asks.now expected.now (duplex (L.reading (link_of self.old)) (L.writing (link_of self.old))) (duplex (L.reading (link_of self.new)) (L.writing (link_of self.new))) (kept_of self.old) (kept_of self.new) heard.new.items result }
-        ensures widths { sent_header self.new ≡ sent_header self.old }
+        ensures sends { Sends asks.now expected.now (host_state L.reading L.writing self.old)
+            (host_state L.reading L.writing self.new) heard.new.items result }
+        ensures header { sent_header self.new ≡ sent_header self.old }
     {
         match exchange(&mut self.link, asks, expected, heard, self.read) {
             Ok(()) => {
@@ -125,15 +148,12 @@ impl<L: Link> Host<L> {
     fn narrow_cycle(&mut self, alloc: Global, ops: &[HostOp]) -> Result<Vec<HostAnswer>, HostFault>
         requires most { length ops.now ≤ 64 }
         requires fit { All (FitsOp (sent_header self.old)) ops.now }
-        ensures answers { Answers (sent_header self.old) ops.now (duplex (L.reading (link_of self.old)) (L.writing (link_of self.old))) (duplex (L.reading (link_of self.new)) (L.writing (link_of self.new))) (kept_of self.old) (kept_of self.new) (given result) }
+        ensures calls { Calls (cycle_records (sent_header self.old) ops.now) (answered (sent_header self.old) ops.now)
+            (host_state L.reading L.writing self.old) (host_state L.reading L.writing self.new) (given result) }
         ensures count { IfOk result (λ answers. length answers.items ≡ length ops.now) }
-        ensures widths { sent_header self.new ≡ sent_header self.old }
+        ensures header { sent_header self.new ≡ sent_header self.old }
     {
-        let header = Header {
-            no_reply: false,
-            address: self.address,
-            port: self.port,
-        };
+        let header = self.header();
         let mut asks = Vec::new(alloc);
         match put_cycle(alloc, header, ops, &mut asks) {
             Ok(()) => {}
@@ -160,28 +180,25 @@ impl<L: Link> Host<L> {
         Ok(answers)
     }
 
-    /// Runs operations as one cycle (Etherbone 1.0), and answers each: the word that was read, 0 for a write, or an error of the
-    /// bus.
+    /// Runs 1 to 64 operations as one cycle, and answers each: the word that was read, 0 for a write, or an error of the
+    /// bus (ERR or RTY).
     ///
-    /// A fault of the link or of a reply is kept, and answered from then on. An address that is wider than the chosen address
-    /// width, and want of memory, come before anything is sent, and are not kept.
+    /// The data have the port's width. A fault of the link or of a reply is kept, and answered from then on, without
+    /// anything being sent. `TooWide` comes exactly where no fault is kept and an address is wider than the address width,
+    /// with the first such address. It and `NoMemory` come before anything is sent, and aren't kept.
     pub fn cycle(&mut self, alloc: Global, ops: &[HostOp]) -> Result<Vec<HostAnswer>, HostFault>
         requires least { 0 < length ops.now }
         requires most { length ops.now ≤ 64 }
-        requires fit { All (λ op. op.dat < 256 ^ octets (port_of self.old)) ops.now }
-        ensures cycles { Cycles (sent_header self.old) ops.now (duplex (L.reading (link_of self.old)) (L.writing (link_of self.old))) (duplex (L.reading (link_of self.new)) (L.writing (link_of self.new))) (kept_of self.old) (kept_of self.new) (kept_of self.old).fault (given result) }
+        requires fit { All (λ op. op.dat < 256 ^ octets (sent_header self.old).port) ops.now }
+        ensures cycle { RunsCycle (host_state L.reading L.writing self.old) (host_state L.reading L.writing self.new)
+            ops.now (given result) }
         ensures count { IfOk result (λ answers. length answers.items ≡ length ops.now) }
-        ensures widths { sent_header self.new ≡ sent_header self.old }
+        ensures header { sent_header self.new ≡ sent_header self.old }
     {
         if let Some(fault) = self.fault {
             return Err(fault);
         }
-        let header = Header {
-            no_reply: false,
-            address: self.address,
-            port: self.port,
-        };
-        if let Some(adr) = too_wide(header, ops) {
+        if let Some(adr) = too_wide(self.header(), ops) {
             return Err(HostFault::TooWide(adr));
         }
         self.narrow_cycle(alloc, ops)
@@ -189,9 +206,10 @@ impl<L: Link> Host<L> {
 
     // A cycle of one operation.
     fn one(&mut self, alloc: Global, op: HostOp) -> Result<HostAnswer, HostFault>
-        requires fit { op.dat < 256 ^ octets (port_of self.old) }
-        ensures cycles { Cycles (sent_header self.old) (op ∷ []) (duplex (L.reading (link_of self.old)) (L.writing (link_of self.old))) (duplex (L.reading (link_of self.new)) (L.writing (link_of self.new))) (kept_of self.old) (kept_of self.new) (kept_of self.old).fault (alone result) }
-        ensures widths { sent_header self.new ≡ sent_header self.old }
+        requires fit { op.dat < 256 ^ octets (sent_header self.old).port }
+        ensures cycle { RunsCycle (host_state L.reading L.writing self.old) (host_state L.reading L.writing self.new)
+            (op ∷ []) (alone result) }
+        ensures header { sent_header self.new ≡ sent_header self.old }
     {
         match self.cycle(alloc, &[op]) {
             Ok(answers) => Ok(answers[0]),
@@ -199,10 +217,11 @@ impl<L: Link> Host<L> {
         }
     }
 
-    /// Reads a word, as a cycle of its own.
+    /// Reads the word at an address, as a cycle of its own. Faults are those of `cycle`.
     pub fn read(&mut self, alloc: Global, adr: u64) -> Result<HostAnswer, HostFault>
-        ensures cycles { Cycles (sent_header self.old) (record { write = false; adr = adr; dat = 0 } ∷ []) (duplex (L.reading (link_of self.old)) (L.writing (link_of self.old))) (duplex (L.reading (link_of self.new)) (L.writing (link_of self.new))) (kept_of self.old) (kept_of self.new) (kept_of self.old).fault (alone result) }
-        ensures widths { sent_header self.new ≡ sent_header self.old }
+        ensures cycle { RunsCycle (host_state L.reading L.writing self.old) (host_state L.reading L.writing self.new)
+            (record { write = false; adr = adr; dat = 0 } ∷ []) (alone result) }
+        ensures header { sent_header self.new ≡ sent_header self.old }
     {
         self.one(
             alloc,
@@ -214,11 +233,12 @@ impl<L: Link> Host<L> {
         )
     }
 
-    /// Writes a word, as a cycle of its own.
+    /// Writes a word of the port's width to an address, as a cycle of its own. Faults are those of `cycle`.
     pub fn write(&mut self, alloc: Global, adr: u64, dat: u64) -> Result<HostAnswer, HostFault>
-        requires fit { dat < 256 ^ octets (port_of self.old) }
-        ensures cycles { Cycles (sent_header self.old) (record { write = true; adr = adr; dat = dat } ∷ []) (duplex (L.reading (link_of self.old)) (L.writing (link_of self.old))) (duplex (L.reading (link_of self.new)) (L.writing (link_of self.new))) (kept_of self.old) (kept_of self.new) (kept_of self.old).fault (alone result) }
-        ensures widths { sent_header self.new ≡ sent_header self.old }
+        requires fit { dat < 256 ^ octets (sent_header self.old).port }
+        ensures cycle { RunsCycle (host_state L.reading L.writing self.old) (host_state L.reading L.writing self.new)
+            (record { write = true; adr = adr; dat = dat } ∷ []) (alone result) }
+        ensures header { sent_header self.new ≡ sent_header self.old }
     {
         self.one(
             alloc,
@@ -230,10 +250,12 @@ impl<L: Link> Host<L> {
         )
     }
 
-    /// The address of the root table, from configuration space.
+    /// The address of the table of the root bus, from the slave's configuration space. Faults are those of `cycle`, but for
+    /// `TooWide`.
     pub fn root(&mut self, alloc: Global) -> Result<u64, HostFault>
-        ensures roots { Roots (sent_header self.old) (duplex (L.reading (link_of self.old)) (L.writing (link_of self.old))) (duplex (L.reading (link_of self.new)) (L.writing (link_of self.new))) (kept_of self.old) (kept_of self.new) (kept_of self.old).fault result }
-        ensures widths { sent_header self.new ≡ sent_header self.old }
+        ensures root { ReadsRoot (host_state L.reading L.writing self.old) (host_state L.reading L.writing self.new)
+            result }
+        ensures header { sent_header self.new ≡ sent_header self.old }
     {
         if let Some(fault) = self.fault {
             return Err(fault);
@@ -243,14 +265,11 @@ impl<L: Link> Host<L> {
 
     // The same where no fault is kept.
     fn ask_root(&mut self, alloc: Global) -> Result<u64, HostFault>
-        ensures rooted { Rooted (sent_header self.old) (duplex (L.reading (link_of self.old)) (L.writing (link_of self.old))) (duplex (L.reading (link_of self.new)) (L.writing (link_of self.new))) (kept_of self.old) (kept_of self.new) result }
-        ensures widths { sent_header self.new ≡ sent_header self.old }
+        ensures calls { Calls (closing (sent_header self.old) 8 ∷ []) (root_in (sent_header self.old))
+            (host_state L.reading L.writing self.old) (host_state L.reading L.writing self.new) result }
+        ensures header { sent_header self.new ≡ sent_header self.old }
     {
-        let header = Header {
-            no_reply: false,
-            address: self.address,
-            port: self.port,
-        };
+        let header = self.header();
         let mut asks = Vec::new(alloc);
         match put_closing(alloc, header, 8, &mut asks) {
             Ok(()) => {}
@@ -272,7 +291,7 @@ impl<L: Link> Host<L> {
         Ok(take_root(header, &heard))
     }
 
-    /// The link.
+    /// Gives the link back, as the last call left it.
     pub fn into_link(self) -> L
         ensures link { result ≡ link_of self }
     {

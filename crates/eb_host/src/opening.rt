@@ -1,16 +1,21 @@
-ghost use Rattle.std.specs.Prelude.{◌≡◌, ◌≤◌, ◌<◌, ◌+◌, ◌-◌, ◌*◌, [], length, vec_capacity, MatchResult, bit_and, Ok, Err, false};
+//! How a link is opened: the probe, the choice of widths, and the header.
+
+ghost use Rattle.std.specs.Prelude.{◌≡◌, ◌≤◌, [], length, vec_capacity, MatchResult, Ok, Err, false};
 ghost use Rattle.eb_base.specs.Width.{AreSets};
-ghost use Rattle.eb_codec.specs.Form.{zeroed, header_form};
-ghost use Rattle.eb_host.specs.Exchange.{Exchanges, duplex};
-ghost use Rattle.eb_host.specs.Host.{header as sent_header};
-ghost use Rattle.eb_host.specs.Opening.{probe_asks, probe_expects, sets_in, greatest as greatest_in, common as common_of, header_expects, Shaken, Fails};
+ghost use Rattle.eb_host.specs.Exchange.{duplex};
+ghost use Rattle.eb_host.specs.Host.{header as header_with};
+ghost use Rattle.eb_host.specs.Opening.{sets_in, greatest as greatest_in, common as common_of, Probes, Heads, Shaken, Fails};
 
 use crate::exchange::exchange;
 use crate::link::Link;
 use crate::op::HostFault;
 use eb_base::{Width, Widths};
 use eb_codec::Header;
+use eb_codec::flags::{MAGIC, NR, PF, PR, VERSION};
 use eb_codec::sizes::unit_len;
+
+// The id of the probe.
+const PROBE_ID: u8 = 1;
 
 // The greatest width of a set.
 fn greatest(set: u8) -> Option<Width>
@@ -51,28 +56,31 @@ fn probe<L: Link>(link: &mut L, widths: Widths, heard: &mut Vec<u8>) -> Result<W
     requires sets { AreSets widths }
     requires empty { heard.old.items ≡ [] }
     requires room { 8 ≤ vec_capacity heard.old }
-    ensures ok { MatchResult result (λ w. Exchanges (duplex (L.reading link.old) (L.writing link.old)) (duplex (L.reading link.new) (L.writing link.new)) (probe_asks widths) probe_expects 0 heard.new.items (Ok tt) × (w ≡ sets_in heard.new.items))
-        (λ f. Exchanges (duplex (L.reading link.old) (L.writing link.old)) (duplex (L.reading link.new) (L.writing link.new)) (probe_asks widths) probe_expects 0 heard.new.items (Err f)) }
+    ensures probes { MatchResult result
+        (λ w. Probes widths (duplex (L.reading link.old) (L.writing link.old))
+        (duplex (L.reading link.new) (L.writing link.new)) heard.new.items (Ok tt) × (w ≡ sets_in heard.new.items))
+        (λ f. Probes widths (duplex (L.reading link.old) (L.writing link.old))
+        (duplex (L.reading link.new) (L.writing link.new)) heard.new.items (Err f)) }
 {
     let asks = [
-        0x4e,
-        0x6f,
-        0x11,
+        MAGIC[0],
+        MAGIC[1],
+        VERSION + PF,
         16 * widths.addresses + widths.ports,
         0,
         0,
         0,
-        1,
+        PROBE_ID,
     ];
     let expected = [
-        Some(0x4e),
-        Some(0x6f),
-        Some(0x16),
+        Some(MAGIC[0]),
+        Some(MAGIC[1]),
+        Some(VERSION + NR + PR),
         None,
         Some(0),
         Some(0),
         Some(0),
-        Some(1),
+        Some(PROBE_ID),
     ];
     match exchange(link, &asks, &expected, heard, 0) {
         Ok(()) => Ok(sets(heard)),
@@ -85,15 +93,18 @@ fn head<L: Link>(link: &mut L, header: Header, heard: &mut Vec<u8>) -> Result<()
     requires replied { header.no_reply ≡ false }
     requires empty { heard.old.items ≡ [] }
     requires room { 8 ≤ vec_capacity heard.old }
-    ensures exchanges { Exchanges (duplex (L.reading link.old) (L.writing link.old)) (duplex (L.reading link.new) (L.writing link.new)) (zeroed (header_form header)) (header_expects header) 8 heard.new.items result }
+    ensures heads { Heads header (duplex (L.reading link.old) (L.writing link.old))
+        (duplex (L.reading link.new) (L.writing link.new)) heard.new.items result }
 {
+    let (a, b) = (MAGIC[0], MAGIC[1]);
+    let answer = VERSION + NR;
     let widths = 16 * header.address.bit() + header.port.bit();
     if unit_len(header) == 8 {
-        let asks = [0x4e, 0x6f, 0x10, widths, 0, 0, 0, 0];
+        let asks = [a, b, VERSION, widths, 0, 0, 0, 0];
         let expected = [
-            Some(0x4e),
-            Some(0x6f),
-            Some(0x14),
+            Some(a),
+            Some(b),
+            Some(answer),
             Some(widths),
             None,
             None,
@@ -102,12 +113,12 @@ fn head<L: Link>(link: &mut L, header: Header, heard: &mut Vec<u8>) -> Result<()
         ];
         return exchange(link, &asks, &expected, heard, 8);
     }
-    let asks = [0x4e, 0x6f, 0x10, widths];
-    let expected = [Some(0x4e), Some(0x6f), Some(0x14), Some(widths)];
+    let asks = [a, b, VERSION, widths];
+    let expected = [Some(a), Some(b), Some(answer), Some(widths)];
     exchange(link, &asks, &expected, heard, 8)
 }
 
-// Opens a link: the widths that were chosen.
+// Opens a link: the header with the widths that were chosen.
 pub fn shake<L: Link>(
     link: &mut L,
     widths: Widths,
@@ -119,8 +130,11 @@ pub fn shake<L: Link>(
     requires room { 8 ≤ vec_capacity first.old }
     requires empty_2 { second.old.items ≡ [] }
     requires room_2 { 8 ≤ vec_capacity second.old }
-    ensures shakes { MatchResult result (λ h. (h ≡ sent_header h.address h.port) × Shaken widths (duplex (L.reading link.old) (L.writing link.old)) (duplex (L.reading link.new) (L.writing link.new)) h.address h.port)
-        (λ f. Fails widths (duplex (L.reading link.old) (L.writing link.old)) (duplex (L.reading link.new) (L.writing link.new)) f) }
+    ensures shakes { MatchResult result
+        (λ h. (h ≡ header_with h.address h.port) × Shaken widths (duplex (L.reading link.old) (L.writing link.old))
+        (duplex (L.reading link.new) (L.writing link.new)) h)
+        (λ f. Fails widths (duplex (L.reading link.old) (L.writing link.old))
+        (duplex (L.reading link.new) (L.writing link.new)) f) }
 {
     let theirs = match probe(link, widths, first) {
         Ok(theirs) => theirs,

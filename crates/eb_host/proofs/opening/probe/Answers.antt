@@ -6,7 +6,7 @@ use Rattle.eb_host.proofs.opening.probe.Goals as goal
 
 pub returns-in-Ok : goal.returns-in-Ok
 returns-in-Ok g c = record {
-  ok = (
+  probes = (
     probed c.args.widths (duplex (g.L.Source.reading c.args.link.now) (g.L.Sink.writing c.args.link.now)) (duplex (g.L.Source.reading c.exchange.new.link) (g.L.Sink.writing c.exchange.new.link)) c.exchange.new.heard.items (Ok tt) c.in-Ok.ensures.exchanges,
     c.sets.ensures ∙ ap sets_in c.deref.ensures.value,
   );
@@ -14,5 +14,5 @@ returns-in-Ok g c = record {
 
 pub returns-in-Err : goal.returns-in-Err
 returns-in-Err g c = record {
-  ok = probed c.args.widths (duplex (g.L.Source.reading c.args.link.now) (g.L.Sink.writing c.args.link.now)) (duplex (g.L.Source.reading c.exchange.new.link) (g.L.Sink.writing c.exchange.new.link)) c.exchange.new.heard.items (Err c.in-Err.fault) c.in-Err.ensures.exchanges;
+  probes = probed c.args.widths (duplex (g.L.Source.reading c.args.link.now) (g.L.Sink.writing c.args.link.now)) (duplex (g.L.Source.reading c.exchange.new.link) (g.L.Sink.writing c.exchange.new.link)) c.exchange.new.heard.items (Err c.in-Err.fault) c.in-Err.ensures.exchanges;
 }
