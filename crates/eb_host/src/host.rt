@@ -24,8 +24,8 @@ use std::alloc::Global;
 
 /// The host at one end of a link, which a slave of Etherbone 1.0 serves at the other.
 ///
-/// Contracts see it as a `HostState`: what its link tells, the header that it sent, how many octets it read, and the fault
-/// that it keeps.
+/// Contracts see it as a `HostState`: what its link tells, the header that it sent, how many octets it read, and the
+/// fault that it keeps.
 #[derive(Drop)]
 pub struct Host<L> {
     link: L,
@@ -60,11 +60,11 @@ fn too_wide(header: Header, ops: &[HostOp]) -> Option<u64>
 }
 
 impl<L: Link> Host<L> {
-    /// Opens a link: it asks the slave for its widths by a probe with these sets of width bits, chooses the greatest width
-    /// of addresses and the greatest width of the port that both have, sends the header, and reads its answer.
+    /// Opens a link: it asks the slave for its widths by a probe with these sets of width bits, chooses the greatest
+    /// width of addresses and the greatest width of the port that both have, sends the header, and reads its answer.
     ///
-    /// Neither set is empty. `NoCommonWidth` comes exactly where a set of the slave's answer has no width in common, and
-    /// then no header was sent. After a fault the link is handed back. `NoMemory` comes before anything is sent.
+    /// Neither set is empty. `NoCommonWidth` comes exactly where a set of the slave's answer has no width in common,
+    /// and then no header was sent. After a fault the link is handed back. `NoMemory` comes before anything is sent.
     pub fn open(alloc: Global, link: L, widths: Widths) -> Result<Host<L>, (L, HostFault)>
         requires sets { AreSets widths }
         requires some_addresses { 0 < widths.addresses }
@@ -180,12 +180,12 @@ impl<L: Link> Host<L> {
         Ok(answers)
     }
 
-    /// Runs 1 to 64 operations as one cycle, and answers each: the word that was read, 0 for a write, or an error of the
-    /// bus (ERR or RTY).
+    /// Runs 1 to 64 operations as one cycle, and answers each: the word that was read, 0 for a write, or an error of
+    /// the bus (ERR or RTY).
     ///
     /// The data have the port's width. A fault of the link or of a reply is kept, and answered from then on, without
-    /// anything being sent. `TooWide` comes exactly where no fault is kept and an address is wider than the address width,
-    /// with the first such address. It and `NoMemory` come before anything is sent, and aren't kept.
+    /// anything being sent. `TooWide` comes exactly where no fault is kept and an address is wider than the address
+    /// width, with the first such address. It and `NoMemory` come before anything is sent, and aren't kept.
     pub fn cycle(&mut self, alloc: Global, ops: &[HostOp]) -> Result<Vec<HostAnswer>, HostFault>
         requires least { 0 < length ops.now }
         requires most { length ops.now ≤ 64 }
@@ -250,8 +250,8 @@ impl<L: Link> Host<L> {
         )
     }
 
-    /// The address of the table of the root bus, from the slave's configuration space. Faults are those of `cycle`, but for
-    /// `TooWide`.
+    /// The address of the table of the root bus, from the slave's configuration space. Faults are those of `cycle`,
+    /// but for `TooWide`.
     pub fn root(&mut self, alloc: Global) -> Result<u64, HostFault>
         ensures root { ReadsRoot (host_state L.reading L.writing self.old) (host_state L.reading L.writing self.new)
             result }
