@@ -52,6 +52,7 @@ fn sets(heard: &[u8]) -> Widths
 }
 
 // Asks for the slave's widths.
+#[tactic(auto, unfolding(eb_base::specs::Field::octets_of))]
 fn probe<L: Link>(link: &mut L, widths: Widths, heard: &mut Vec<u8>) -> Result<Widths, HostFault>
     requires sets { AreSets widths }
     requires empty { heard.old.items ≡ [] }

@@ -28,7 +28,7 @@ use Rattle.eb_host.specs.Asks.{lanes, port_words, asked, closing, reply_octets, 
 use Rattle.eb_host.specs.Answers.{word_place, word_at, op_words, last_at, joined, answer_of, answers}
 use Rattle.eb_host.specs.Host.{root_in}
 use Rattle.eb_host.proofs.AskLemmas.{length-port_words}
-use Rattle.eb_loopback.specs.Loopback.{taken, all_taken, RepliesMeet, RootMeets}
+use Rattle.eb_loopback.specs.Loopback.{host_answer, host_answers, RepliesMeet, RootMeets}
 use Rattle.eb_loopback.proofs.BitLemmas.{bit_of}
 use Rattle.eb_loopback.proofs.OneReplyLemmas.{reply, written, fills_reply, word_is, length-written, number_behind, number_before}
 use Rattle.eb_loopback.proofs.ClosingLemmas.{joined_by, joined_is, word_of_errors, word_of_root, config-lt}
@@ -284,12 +284,12 @@ module _ (h : Header) (s : Slave) where
   -- ---- the answers
 
   one_taken : (op : HostOp) (a : Answer) (given : List Answer) (ws : List ℕ) (errors : ℕ) → length ws ≡ length given → length given < 64
-      → answer_of (register errors (a ∷ given)) (length ws) (word op a) ≡ taken h s.bus op a
+      → answer_of (register errors (a ∷ given)) (length ws) (word op a) ≡ host_answer h s.bus op a
   one_taken op a given ws errors e lt =
       ap (λ (n : ℕ). answer_of (register errors (a ∷ given)) n (word op a)) e
       ∙ ap (λ (b : ℕ). if b == 1 then Error else Done (word op a)) (bit_of a given errors lt) ∙ by a
     where
-      by : (c : Answer) → (if failed c == 1 then Error else Done (if op.write then 0 else answer_word h.port s.bus op.adr (lanes h) c)) ≡ taken h s.bus op c
+      by : (c : Answer) → (if failed c == 1 then Error else Done (if op.write then 0 else answer_word h.port s.bus op.adr (lanes h) c)) ≡ host_answer h s.bus op c
       by (Ack dat) = refl
       by Err = refl
       by Rty = refl
@@ -300,7 +300,7 @@ module _ (h : Header) (s : Slave) where
   length-words (op ∷ ops) [] e = refl
   length-words (op ∷ ops) (a ∷ given) e = ap suc (length-words ops given (omega arith))
 
-  answers_are : (ops : List HostOp) (given : List Answer) (errors : ℕ) → length given ≡ length ops → length given ≤ 64 → answers (register errors given) (words ops given) ≡ all_taken h s.bus ops given
+  answers_are : (ops : List HostOp) (given : List Answer) (errors : ℕ) → length given ≡ length ops → length given ≤ 64 → answers (register errors given) (words ops given) ≡ host_answers h s.bus ops given
   answers_are [] [] errors e le = refl
   answers_are [] (a ∷ given) errors e le = absurd (omega arith)
   answers_are (op ∷ ops) [] errors e le = refl

@@ -26,15 +26,15 @@ abbrev pub request_of : Header → Width → HostOp → Request
 request_of h bus op = placed h.port bus op.write op.adr (if op.write then op.dat else 0) (lanes h)
 
 -- the bus's answer as the host takes it: the word of a read, 0 for a write
-abbrev pub taken : Header → Width → HostOp → Answer → HostAnswer
-taken h bus op (Ack dat) = Done (if op.write then 0 else word_of h.port bus op.adr dat (lanes h))
-taken h bus op Err = Error
-taken h bus op Rty = Error
+abbrev pub host_answer : Header → Width → HostOp → Answer → HostAnswer
+host_answer h bus op (Ack dat) = Done (if op.write then 0 else word_of h.port bus op.adr dat (lanes h))
+host_answer h bus op Err = Error
+host_answer h bus op Rty = Error
 
-abbrev pub all_taken : Header → Width → List HostOp → List Answer → List HostAnswer
-all_taken h bus [] answers = []
-all_taken h bus (op ∷ ops) [] = []
-all_taken h bus (op ∷ ops) (a ∷ answers) = taken h bus op a ∷ all_taken h bus ops answers
+abbrev pub host_answers : Header → Width → List HostOp → List Answer → List HostAnswer
+host_answers h bus [] answers = []
+host_answers h bus (op ∷ ops) [] = []
+host_answers h bus (op ∷ ops) (a ∷ answers) = host_answer h bus op a ∷ host_answers h bus ops answers
 
 -- the items of a cycle
 abbrev pub cycle_items : Header → List HostOp → List StreamItem
@@ -54,7 +54,7 @@ abbrev pub RepliesMeet : Type 0
 RepliesMeet = (h : Header) (s : Slave) (ops : List HostOp) (answers : List Answer) (errors : ℕ) → h.no_reply ≡ false → All (FitsOp h) ops → length ops ≤ 64
     → length answers ≡ length ops → errors < 2 ^ 64
     → let replies = replies_from s (Some h) errors (cycle_items h ops) answers in
-    Fills replies (expects h (cycle_records h ops)) × (answered h ops replies ≡ all_taken h s.bus ops answers)
+    Fills replies (expects h (cycle_records h ops)) × (answered h ops replies ≡ host_answers h s.bus ops answers)
 
 -- The slave's answer to the host's probe is expected, and has the slave's sets.
 abbrev pub ProbeMeets : Type 0
