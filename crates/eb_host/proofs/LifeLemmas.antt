@@ -1,21 +1,18 @@
 -- What goes out by calls one after another.
-use Rattle.std.proofs.Common.{◌≡◌, ◌⊎◌, inl, inr, ℕ, List, [], ◌∷◌, ◌++◌, Result, Ok, Err, Option, Some, None, refl, sym, ap, ◌∙◌, subst, append_assoc, append-nil}
+use Rattle.std.proofs.Common.{◌≡◌, inl, inr, ℕ, List, [], ◌∷◌, ◌++◌, Result, Ok, Err, Option, Some, None, refl, sym, ap, ◌∙◌, subst, append-nil}
 use Rattle.std.specs.Prelude.{MatchOption}
-use Rattle.eb_base.specs.declared.width.Widths.{Widths}
 use Rattle.eb_codec.specs.declared.item.Header.{Header}
 use Rattle.eb_codec.specs.declared.item.Record.{Record}
 use Rattle.eb_codec.specs.Form.{zeroed, header_form}
-use Rattle.eb_io.specs.Writing.{Told, told_more, Took, WroteFront}
+use Rattle.eb_io.specs.Writing.{Told, told_more}
 use Rattle.eb_io.proofs.WritingLemmas.{told_on, took_none, took_more}
-use Rattle.eb_host.specs.declared.op.HostOp.{HostOp}
 use Rattle.eb_host.specs.declared.op.HostAnswer.{HostAnswer}
 use Rattle.eb_host.specs.declared.op.HostFault.{HostFault}
 use Rattle.eb_host.specs.declared.op.HostFault.TheVariants as fault
 use Rattle.eb_host.specs.Asks.{asks, closing, cycle_records}
 use Rattle.eb_host.specs.Answers.{answered}
-use Rattle.eb_host.specs.Exchange.{Duplex}
-use Rattle.eb_host.specs.Host.{HostState, Declines, Calls, RunsCycle, ReadsRoot, too_wide, root_in}
-use Rattle.eb_host.specs.Opening.{probe_asks, Opened}
+use Rattle.eb_host.specs.Host.{HostState, Declines, Calls, too_wide, root_in}
+use Rattle.eb_host.specs.Opening.{probe_asks}
 use Rattle.eb_host.specs.Life.{HostCall, CycleCall, RootCall, Does, DoesAll, asked_by, Extent, WholeCall, FrontOfCall, NoneOfCall, extent, extent_of, GoesOutBy, GoesOut, WritesAsks}
 
 written_of : HostState → Told

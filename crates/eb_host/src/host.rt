@@ -4,7 +4,7 @@ ghost use Rattle.std.specs.Prelude.{◌≡◌, ◌<◌, ◌≤◌, ◌^◌, [], 
 ghost use Rattle.eb_base.specs.Width.{octets, bit, AreSets};
 ghost use Rattle.eb_codec.specs.Form.{Fills};
 ghost use Rattle.eb_host.specs.Asks.{FitsOp, expects, closing, cycle_records};
-ghost use Rattle.eb_host.specs.Answers.{answered, joined};
+ghost use Rattle.eb_host.specs.Answers.{answered, joined, FitsPort};
 ghost use Rattle.eb_host.specs.Exchange.{duplex};
 ghost use Rattle.eb_host.specs.Host.{too_wide as too_wide_in, header as header_with, Sends, Calls, RunsCycle, ReadsRoot, root_in, given, alone};
 ghost use Rattle.eb_host.specs.Opening.{Opened, NotOpened};
@@ -151,6 +151,7 @@ impl<L: Link> Host<L> {
         ensures calls { Calls (cycle_records (sent_header self.old) ops.now) (answered (sent_header self.old) ops.now)
             (host_state L.reading L.writing self.old) (host_state L.reading L.writing self.new) (given result) }
         ensures count { IfOk result (λ answers. length answers.items ≡ length ops.now) }
+        ensures words { IfOk result (λ answers. All (FitsPort (sent_header self.old)) answers.items) }
         ensures header { sent_header self.new ≡ sent_header self.old }
     {
         let header = self.header();
@@ -193,6 +194,7 @@ impl<L: Link> Host<L> {
         ensures cycle { RunsCycle (host_state L.reading L.writing self.old) (host_state L.reading L.writing self.new)
             ops.now (given result) }
         ensures count { IfOk result (λ answers. length answers.items ≡ length ops.now) }
+        ensures words { IfOk result (λ answers. All (FitsPort (sent_header self.old)) answers.items) }
         ensures header { sent_header self.new ≡ sent_header self.old }
     {
         if let Some(fault) = self.fault {
@@ -209,6 +211,7 @@ impl<L: Link> Host<L> {
         requires fit { op.dat < 256 ^ octets (sent_header self.old).port }
         ensures cycle { RunsCycle (host_state L.reading L.writing self.old) (host_state L.reading L.writing self.new)
             (op ∷ []) (alone result) }
+        ensures word { IfOk result (FitsPort (sent_header self.old)) }
         ensures header { sent_header self.new ≡ sent_header self.old }
     {
         match self.cycle(alloc, &[op]) {
@@ -221,6 +224,7 @@ impl<L: Link> Host<L> {
     pub fn read(&mut self, alloc: Global, adr: u64) -> Result<HostAnswer, HostFault>
         ensures cycle { RunsCycle (host_state L.reading L.writing self.old) (host_state L.reading L.writing self.new)
             (record { write = false; adr = adr; dat = 0 } ∷ []) (alone result) }
+        ensures word { IfOk result (FitsPort (sent_header self.old)) }
         ensures header { sent_header self.new ≡ sent_header self.old }
     {
         self.one(
@@ -238,6 +242,7 @@ impl<L: Link> Host<L> {
         requires fit { dat < 256 ^ octets (sent_header self.old).port }
         ensures cycle { RunsCycle (host_state L.reading L.writing self.old) (host_state L.reading L.writing self.new)
             (record { write = true; adr = adr; dat = dat } ∷ []) (alone result) }
+        ensures word { IfOk result (FitsPort (sent_header self.old)) }
         ensures header { sent_header self.new ≡ sent_header self.old }
     {
         self.one(
@@ -315,6 +320,7 @@ fn take_answers(header: Header, ops: &[HostOp], heard: &[u8], answers: &mut Vec<
     requires room { length ops.now ≤ vec_capacity answers.old }
     ensures same { answers.new.items ≡ answered header ops.now heard.now }
     ensures count { length answers.new.items ≡ length ops.now }
+    ensures fit { All (FitsPort header) answers.new.items }
 {
     let errors = joined_at(header, heard, closing_at(header, ops));
     put_answers(header, ops, heard, errors, answers);
