@@ -3,8 +3,8 @@
 ghost use Rattle.std.specs.Prelude.{◌≡◌, ◌<◌, ◌^◌, []};
 ghost use Rattle.std.specs.declared.option.Option.TheVariants.{Some};
 ghost use Rattle.eb_base.specs.declared.width.Width.TheVariants.{W32};
+ghost use Rattle.sdb_walk.specs.Told.{with_exchange};
 ghost use Rattle.eb_host.specs.View.{sent_header, host_state};
-ghost use Rattle.eb_reader.specs.Reader.{ReadsWord, host_of, told_of};
 
 use eb_host::{Host, HostAnswer, HostFault, Link};
 use sdb_walk::{NoWord, WordReader};
@@ -29,6 +29,8 @@ pub struct HostReader<L> {
 }
 
 impl<L: Link> HostReader<L> {
+    ghost use Rattle.eb_reader.specs.Reader.{ReadsWord, host_of, told_of};
+
     /// A reader over this host, which was asked for nothing yet.
     pub fn new(alloc: Global, host: Host<L>) -> HostReader<L>
         requires port { (sent_header host).port ≡ W32 }
@@ -67,12 +69,13 @@ impl<L: Link> HostReader<L> {
 impl<L: Link> WordReader for HostReader<L> {
     type Cause = HostFault;
 
-    ghost use Rattle.eb_reader.specs.Reader.{told_of};
+    ghost use Rattle.eb_reader.specs.Reader.{ReadsWord, host_of, told_of};
 
     ghost told = { told_of };
 
     /// The word that the host reads at the address, `BusError` for an error of the bus, or the host's fault.
     fn word(&mut self, adr: u64) -> Result<u32, NoWord<HostFault>>
+        ensures told { told_of self.new ≡ with_exchange (told_of self.old) adr result }
         ensures reads { ReadsWord (host_state L.reading L.writing (host_of self.old))
             (host_state L.reading L.writing (host_of self.new)) adr result }
     {
