@@ -4,7 +4,7 @@ ghost use Rattle.std.specs.Prelude.{◌≡◌, ◌≤◌, [], length, vec_capaci
 ghost use Rattle.eb_host.specs.Exchange.{Exchanges, duplex};
 
 use crate::hearing::{Heard, hear};
-use crate::link::Link;
+use crate::Link;
 use crate::op::HostFault;
 use eb_io::{WriteFault, put_all};
 

@@ -7,7 +7,7 @@ ghost use Rattle.eb_host.specs.Host.{header as header_with};
 ghost use Rattle.eb_host.specs.Opening.{sets_in, greatest as greatest_in, common as common_of, Probes, Heads, Shaken, Fails};
 
 use crate::exchange::exchange;
-use crate::link::Link;
+use crate::Link;
 use crate::op::HostFault;
 use eb_base::{Width, Widths};
 use eb_codec::Header;

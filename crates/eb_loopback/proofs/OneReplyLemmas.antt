@@ -17,7 +17,7 @@ use Rattle.eb_codec.proofs.FieldLemmas.{fields_read}
 use Rattle.eb_codec.proofs.ZeroedLemmas.{zeroed-append, length-zeroed}
 use Rattle.eb_codec.proofs.RecordLemmas.{address-field, port-field, four-unit}
 use Rattle.eb_host.specs.Asks.{lanes, reply_body, reply_octets, reply_form}
-use Rattle.eb_host.specs.Answers.{word_place, word_at}
+use Rattle.eb_host.specs.Answers.{word_start, word_at}
 
 -- ---- numbers at places
 
@@ -114,7 +114,7 @@ module _ (h : Header) where
     word_is small i lt =
         let place : ℕ = field_octets h * i + (field_octets h - octets h.port) in
         let front : length (zeroed before) ≡ unit_octets h + field_octets h = length-zeroed before ∙ length-before in
-        let at : word_place h 0 i ≡ length (zeroed before) + place = omega (arith, front) in
+        let at : word_start h 0 i ≡ length (zeroed before) + place = omega (arith, front) in
         let apart : written ≡ zeroed before ++ (zeroed fields ++ zeroed after) = written_is ∙ append_assoc (zeroed before) (zeroed fields) (zeroed after) in
         let inner : take (field_octets h * length words) (zeroed fields ++ zeroed after) ≡ zeroed fields = take_at (zeroed fields) (zeroed after) (field_octets h * length words) (length-zeroed fields ∙ length-fields h.port words (port-field h)) in
         let read : numbers_in h h.port (length words) (zeroed fields ++ zeroed after) ≡ words =

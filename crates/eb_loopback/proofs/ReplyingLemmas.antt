@@ -25,7 +25,7 @@ use Rattle.eb_session.specs.Replies.{answer_word, read_word, item_reply, replies
 use Rattle.eb_host.specs.declared.op.HostOp.{HostOp}
 use Rattle.eb_host.specs.declared.op.HostAnswer.TheVariants.{Done, Error}
 use Rattle.eb_host.specs.Asks.{lanes, port_words, asked, closing, reply_octets, reply_form, reply_to, expects}
-use Rattle.eb_host.specs.Answers.{word_place, word_at, op_words, last_at, joined, answer_of, answers}
+use Rattle.eb_host.specs.Answers.{word_start, word_at, op_words, last_at, joined, answer_of, answers}
 use Rattle.eb_host.specs.Host.{root_in}
 use Rattle.eb_host.proofs.AskLemmas.{length-port_words}
 use Rattle.eb_loopback.specs.Loopback.{host_answer, host_answers, RepliesMeet, RootMeets}
@@ -169,8 +169,8 @@ module _ (h : Header) (s : Slave) where
   -- a word of what stands behind other octets
   word_behind : (pre x : List ℕ) (i : ℕ) → word_at h (pre ++ x) (length pre) i ≡ word_at h x 0 i
   word_behind pre x i =
-      let e : word_place h (length pre) i ≡ length pre + word_place h 0 i = omega arith in
-      ap (number_at h.port (pre ++ x)) e ∙ number_behind h.port pre x (word_place h 0 i)
+      let e : word_start h (length pre) i ≡ length pre + word_start h 0 i = omega arith in
+      ap (number_at h.port (pre ++ x)) e ∙ number_behind h.port pre x (word_start h 0 i)
 
   -- the number that its words are together
   number_joined : (at : ℕ) (pre : List ℕ) (errors value : ℕ) → value < 2 ^ 64
@@ -240,9 +240,9 @@ module _ (h : Header) (s : Slave) where
         let same : pre ++ (x ++ rest) ≡ (pre ++ x) ++ rest = sym (append_assoc pre x rest) in
         let long : length pre + reply_octets h 1 ≡ length (pre ++ x) = omega (arith, length-append pre x, size) in
         let small : All (λ v. v < 256 ^ octets h.port) (w ∷ []) = All-cons (λ (v : ℕ). v < 256 ^ octets h.port) w [] (word-lt op.adr a) (All-nil (λ (v : ℕ). v < 256 ^ octets h.port)) in
-        let inside : word_place h 0 0 + octets h.port ≤ length x = omega (arith, size, port-field h) in
+        let inside : word_start h 0 0 + octets h.port ≤ length x = omega (arith, size, port-field h) in
         let here : word_at h (pre ++ (x ++ rest)) (length pre) 0 ≡ w =
-        word_behind pre (x ++ rest) 0 ∙ number_before h.port x rest (word_place h 0 0) inside ∙ ap (λ (o : List ℕ). word_at h o 0 0) is ∙ word_is h 0x04 1 w [] refl small 0 (omega arith) in
+        word_behind pre (x ++ rest) 0 ∙ number_before h.port x rest (word_start h 0 0) inside ∙ ap (λ (o : List ℕ). word_at h o 0 0) is ∙ word_is h 0x04 1 w [] refl small 0 (omega arith) in
         λ i. here i ∷ op_words h ops (long i) (same i)
 
     read_last : x ≡ written h 0x04 1 (answer_word h.port s.bus op.adr (lanes h) a) [] refl → Last false
