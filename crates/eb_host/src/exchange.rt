@@ -3,8 +3,8 @@
 ghost use Rattle.std.specs.Prelude.{◌≡◌, ◌≤◌, [], length, vec_capacity};
 ghost use Rattle.eb_host.specs.Exchange.{Exchanges, duplex};
 
-use crate::hearing::{Heard, hear};
 use crate::Link;
+use crate::hearing::{Heard, hear};
 use crate::op::HostFault;
 use eb_io::{WriteFault, put_all};
 

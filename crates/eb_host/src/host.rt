@@ -10,10 +10,10 @@ ghost use Rattle.eb_host.specs.Host.{too_wide as too_wide_in, header as header_w
 ghost use Rattle.eb_host.specs.Opening.{Opened, NotOpened};
 ghost use Rattle.eb_host.specs.View.{link_of, sent_header, host_state};
 
+use crate::Link;
 use crate::asks::{put_closing, put_cycle};
 use crate::exchange::exchange;
 use crate::expected::{expect_closing, expect_cycle};
-use crate::Link;
 use crate::op::{HostAnswer, HostFault, HostOp};
 use crate::opening::shake;
 use crate::replies::{closing_at, joined_at, put_answers};

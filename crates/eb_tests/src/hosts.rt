@@ -76,8 +76,8 @@ fn read_over(alloc: Global, replies: &[u8]) -> Result<HostAnswer, HostFault> {
     }
 }
 
-// The replies of a slave with all widths of addresses and ports up to 32 bits: to the probe, to the header, to a read, and
-// to the record that ends the cycle.
+// The replies of a slave with all widths of addresses and ports up to 32 bits: to the probe, to the header, to a read,
+// and to the record that ends the cycle.
 static REPLIES: [u8; 72] = [
     0x4e, 0x6f, 0x16, 0xf7, 0, 0, 0, 1, //
     0x4e, 0x6f, 0x14, 0x84, 0, 0, 0, 0, //
@@ -95,7 +95,7 @@ static ASKED: [u8; 72] = [
     0, 0, 0, 4,
 ];
 
-// A read, then one whose replies are wanting, then one that answers the same fault and sends nothing.
+// A read: the word that the replies carry, and all that was sent.
 #[test]
 fn one_read(rt: HostRuntime) -> Result<(), Fail> {
     let alloc = rt.alloc();
@@ -170,8 +170,8 @@ fn turned_replies(rt: HostRuntime) -> Result<(), Fail> {
     Ok(())
 }
 
-// The replies of a slave with addresses of 32 bits: to the probe, to the header, to a cycle of a write and a read of which
-// the write failed, to a write, and to the record that reads the address of the root table.
+// The replies of a slave with addresses of 32 bits: to the probe, to the header, to a cycle of a write and a read of
+// which the write failed, to a write, and to the record that reads the address of the root table.
 static NARROW: [u8; 72] = [
     0x4e, 0x6f, 0x16, 0x47, 0, 0, 0, 1, //
     0x4e, 0x6f, 0x14, 0x44, //
