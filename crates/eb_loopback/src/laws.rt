@@ -11,17 +11,17 @@ pub fn opening()
     ensures headed { HeaderMeets }
 {}
 
-/// The octets that a host sends for a cycle spell its records (`spelled`). These have its operations, each one operation
-/// of the bus, as one cycle (`asked`). The slave's replies to them are those that the host expects, and the host's
-/// answers are those that the bus gave (`replied`).
+/// The octets that a host sends for a cycle spell its records (`spelled`). These have its operations, each one
+/// operation of the bus, as one cycle (`asked`). The slave's replies to them are those that the host expects, and the
+/// host's answers are those that the bus gave (`replied`).
 pub fn cycle()
     ensures spelled { AsksSpell }
     ensures asked { AsksMeet }
     ensures replied { RepliesMeet }
 {}
 
-/// The octets that a host sends for the address of the root table spell their record (`spelled`), which has no operation
-/// of the bus (`asked`). The slave's reply is expected, and has that address (`replied`).
+/// The octets that a host sends for the address of the root table spell their record (`spelled`), which has no
+/// operation of the bus (`asked`). The slave's reply is expected, and has that address (`replied`).
 pub fn root()
     ensures spelled { RootSpells }
     ensures asked { RootAsks }
