@@ -1,6 +1,7 @@
 //! The host: it opens a link, runs cycles, and keeps its first fault.
 
 ghost use Rattle.std.specs.Prelude.{◌≡◌, ◌<◌, ◌≤◌, ◌^◌, [], length, All, nat_lt, vec_capacity, ◌∷◌, ◌/◌, IfOk, MatchResult, true, false};
+ghost use Rattle.eb_base.specs.declared.width.Width.{Width};
 ghost use Rattle.eb_base.specs.Width.{octets, bit, AreSets};
 ghost use Rattle.eb_codec.specs.Form.{Fills};
 ghost use Rattle.eb_host.specs.Asks.{FitsOp, expects, closing, cycle_records};
@@ -63,8 +64,9 @@ impl<L: Link> Host<L> {
     /// Opens a link: it asks the slave for its widths by a probe with these sets of width bits, chooses the greatest
     /// width of addresses and the greatest width of the port that both have, sends the header, and reads its answer.
     ///
-    /// Neither set is empty. `NoCommonWidth` comes exactly where a set of the slave's answer has no width in common,
-    /// and then no header was sent. After a fault the link is handed back. `NoMemory` comes before anything is sent.
+    /// Neither set is empty. Where one width of the port is asked for, it is the one chosen. `NoCommonWidth` comes
+    /// exactly where a set of the slave's answer has no width in common, and then no header was sent. After a fault
+    /// the link is handed back. `NoMemory` comes before anything is sent.
     pub fn open(alloc: Global, link: L, widths: Widths) -> Result<Host<L>, (L, HostFault)>
         requires sets { AreSets widths }
         requires some_addresses { 0 < widths.addresses }
@@ -73,6 +75,8 @@ impl<L: Link> Host<L> {
             (λ host. Opened widths (duplex (L.reading link) (L.writing link)) (host_state L.reading L.writing host))
             (λ e. NotOpened widths (duplex (L.reading link) (L.writing link))
             (duplex (L.reading e.0) (L.writing e.0)) e.1) }
+        ensures only_port { IfOk result (λ host. (w : Width) → widths.ports ≡ bit w →
+            (sent_header host).port ≡ w) }
     {
         let mut first = match Vec::with_capacity(alloc, 8) {
             Ok(first) => first,
