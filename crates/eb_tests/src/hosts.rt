@@ -3,6 +3,8 @@ ghost use Rattle.std.specs.Prelude.{refl};
 use eb_base::{NoMemory, Widths};
 use eb_host::{Host, HostAnswer, HostFault, HostOp, Link};
 use eb_io::{Got, MemSink, MemSource, Put, Sink, Source};
+use eb_reader::HostReader;
+use sdb_walk::{NoWord, WordReader};
 use std::alloc::Global;
 use std::test::Fail;
 
@@ -45,12 +47,23 @@ impl Link for Replies {
     ghost tells_reads = { λ r. refl };
 }
 
-// A link with these replies, which gives 3 octets a read and takes 5 a write.
-fn link(alloc: Global, replies: &[u8]) -> Result<Replies, NoMemory> {
+// A link with these replies, which gives 3 octets a read and takes 5 a write. The reads and writes with these numbers
+// fail.
+fn failing_link(
+    alloc: Global,
+    replies: &[u8],
+    reads: &[u64],
+    writes: &[u64],
+) -> Result<Replies, NoMemory> {
+    let octets = Vec::from_slice(alloc, replies)?;
     Ok(Replies {
-        source: MemSource::new(Vec::from_slice(alloc, replies)?, 3, Vec::new(alloc)),
-        sink: MemSink::new(alloc, 200, 5, Vec::new(alloc))?,
+        source: MemSource::new(octets, 3, Vec::from_slice(alloc, reads)?),
+        sink: MemSink::new(alloc, 200, 5, Vec::from_slice(alloc, writes)?)?,
     })
+}
+
+fn link(alloc: Global, replies: &[u8]) -> Result<Replies, NoMemory> {
+    failing_link(alloc, replies, &[], &[])
 }
 
 // A host with all widths of addresses and a port of 32 bits.
@@ -119,6 +132,16 @@ fn fault_is_kept(rt: HostRuntime) -> Result<(), Fail> {
     assert_eq!(rt; host.root(alloc), Err(HostFault::Ended(40)));
     let link = host.into_link();
     assert_eq!(rt; link.sink.octets(), ASKED.as_slice());
+    Ok(())
+}
+
+#[test]
+fn failed_calls(rt: HostRuntime) -> Result<(), Fail> {
+    let alloc = rt.alloc();
+    let no_read = failing_link(alloc, &REPLIES, &[2], &[])?;
+    let no_write = failing_link(alloc, &REPLIES, &[], &[3])?;
+    assert_eq!(rt; open(no_read, alloc).err(), Some(HostFault::LinkRead));
+    assert_eq!(rt; open(no_write, alloc).err(), Some(HostFault::LinkWrite));
     Ok(())
 }
 
@@ -213,5 +236,29 @@ fn narrow_addresses(rt: HostRuntime) -> Result<(), Fail> {
     );
     assert_eq!(rt; host.write(alloc, 0x10, 1), Ok(HostAnswer::Done(0)));
     assert_eq!(rt; host.root(alloc), Ok(0x2_8000));
+    Ok(())
+}
+
+// A reader over a host with a port of 32 bits.
+fn reader(link: Replies, alloc: Global) -> Result<HostReader<Replies>, HostFault> {
+    let widths = Widths {
+        addresses: 15,
+        ports: 4,
+    };
+    match Host::open(alloc, link, widths) {
+        Ok(host) => Ok(HostReader::new(alloc, host)),
+        Err((_, fault)) => Err(fault),
+    }
+}
+
+#[test]
+fn one_word(rt: HostRuntime) -> Result<(), Fail> {
+    let alloc = rt.alloc();
+    let Ok(mut reader) = reader(link(alloc, &REPLIES)?, alloc) else {
+        return Err(Fail::from("open"));
+    };
+    let ended = NoWord::Cause(HostFault::Ended(72));
+    assert!(rt; reader.word(0x10) == Ok(0xdead_beef));
+    assert!(rt; reader.word(0x10) == Err(ended));
     Ok(())
 }
