@@ -13,6 +13,8 @@ mod commands;
 #[cfg(test)]
 mod descriptions;
 #[cfg(test)]
+mod hosts;
+#[cfg(test)]
 mod journal;
 #[cfg(test)]
 mod machine;

@@ -1,0 +1,331 @@
+//! The host: it opens a link, runs cycles, and keeps its first fault.
+
+ghost use Rattle.std.specs.Prelude.{◌≡◌, ◌<◌, ◌≤◌, ◌^◌, [], length, All, nat_lt, vec_capacity, ◌∷◌, ◌/◌, IfOk, MatchResult, true, false};
+ghost use Rattle.eb_base.specs.declared.width.Width.{Width};
+ghost use Rattle.eb_base.specs.Width.{octets, bit, AreSets};
+ghost use Rattle.eb_codec.specs.Form.{Fills};
+ghost use Rattle.eb_host.specs.Asks.{FitsOp, expects, closing, cycle_records};
+ghost use Rattle.eb_host.specs.Answers.{answered, joined, FitsPort};
+ghost use Rattle.eb_host.specs.Exchange.{duplex};
+ghost use Rattle.eb_host.specs.Host.{too_wide as too_wide_in, header as header_with, Sends, Calls, RunsCycle, ReadsRoot, root_in, given, alone};
+ghost use Rattle.eb_host.specs.Opening.{Opened, NotOpened};
+ghost use Rattle.eb_host.specs.View.{link_of, sent_header, host_state};
+
+use crate::Link;
+use crate::asks::{put_closing, put_cycle};
+use crate::exchange::exchange;
+use crate::expected::{expect_closing, expect_cycle};
+use crate::op::{HostAnswer, HostFault, HostOp};
+use crate::opening::shake;
+use crate::replies::{closing_at, joined_at, put_answers};
+use eb_base::{NoMemory, Width, Widths};
+use eb_codec::Header;
+use eb_codec::sizes::unit_len;
+use std::alloc::Global;
+
+/// The host at one end of a link, which a slave of Etherbone 1.0 serves at the other.
+///
+/// Contracts see it as a `HostState`: what its link tells, the header that it sent, how many octets it read, and the
+/// fault that it keeps.
+#[derive(Drop)]
+pub struct Host<L> {
+    link: L,
+    address: Width,
+    port: Width,
+    read: u64,
+    fault: Option<HostFault>,
+}
+
+// Whether an address has no more bits than the width.
+fn is_narrow(width: Width, adr: u64) -> bool
+    ensures { result ≡ nat_lt adr (256 ^ octets width) }
+{
+    match width {
+        Width::W8 => adr < 0x100,
+        Width::W16 => adr < 0x1_0000,
+        Width::W32 => adr < 0x1_0000_0000,
+        Width::W64 => true,
+    }
+}
+
+// The first address that is too wide.
+fn too_wide(header: Header, ops: &[HostOp]) -> Option<u64>
+    ensures { result ≡ too_wide_in header ops.now }
+{
+    for i in 0..ops.len() {
+        if !is_narrow(header.address, ops[i].adr) {
+            return Some(ops[i].adr);
+        }
+    }
+    None
+}
+
+impl<L: Link> Host<L> {
+    /// Opens a link: it asks the slave for its widths by a probe with these sets of width bits, chooses the greatest
+    /// width of addresses and the greatest width of the port that both have, sends the header, and reads its answer.
+    ///
+    /// Neither set is empty. Where one width of the port is asked for, it is the one chosen. `NoCommonWidth` comes
+    /// exactly where a set of the slave's answer has no width in common, and then no header was sent. After a fault
+    /// the link is handed back. `NoMemory` comes before anything is sent.
+    pub fn open(alloc: Global, link: L, widths: Widths) -> Result<Host<L>, (L, HostFault)>
+        requires sets { AreSets widths }
+        requires some_addresses { 0 < widths.addresses }
+        requires some_ports { 0 < widths.ports }
+        ensures opens { MatchResult result
+            (λ host. Opened widths (duplex (L.reading link) (L.writing link)) (host_state L.reading L.writing host))
+            (λ e. NotOpened widths (duplex (L.reading link) (L.writing link))
+            (duplex (L.reading e.0) (L.writing e.0)) e.1) }
+        ensures only_port { IfOk result (λ host. (w : Width) → widths.ports ≡ bit w →
+            (sent_header host).port ≡ w) }
+    {
+        let mut first = match Vec::with_capacity(alloc, 8) {
+            Ok(first) => first,
+            Err(_) => return Err((link, HostFault::NoMemory)),
+        };
+        let mut second = match Vec::with_capacity(alloc, 8) {
+            Ok(second) => second,
+            Err(_) => return Err((link, HostFault::NoMemory)),
+        };
+        let mut link = link;
+        match shake(&mut link, widths, &mut first, &mut second) {
+            Ok(header) => Ok(Host {
+                link,
+                address: header.address,
+                port: header.port,
+                read: 8 + unit_len(header) as u64,
+                fault: None,
+            }),
+            Err(fault) => Err((link, fault)),
+        }
+    }
+
+    /// The widths that were chosen, as width bits.
+    pub fn widths(&self) -> Widths
+        ensures widths { result ≡ record {
+          addresses = bit (sent_header self.now).address;
+          ports = bit (sent_header self.now).port;
+        } }
+    {
+        Widths {
+            addresses: self.address.bit(),
+            ports: self.port.bit(),
+        }
+    }
+
+    // The header that was sent.
+    fn header(&self) -> Header
+        ensures { result ≡ sent_header self.now }
+    {
+        Header {
+            no_reply: false,
+            address: self.address,
+            port: self.port,
+        }
+    }
+
+    // Sends octets, reads those that are expected, and keeps a fault.
+    fn send(
+        &mut self,
+        asks: &[u8],
+        expected: &[Option<u8>],
+        heard: &mut Vec<u8>,
+    ) -> Result<(), HostFault>
+        requires empty { heard.old.items ≡ [] }
+        requires room { length expected.now ≤ vec_capacity heard.old }
+        ensures sends { Sends asks.now expected.now (host_state L.reading L.writing self.old)
+            (host_state L.reading L.writing self.new) heard.new.items result }
+        ensures header { sent_header self.new ≡ sent_header self.old }
+    {
+        match exchange(&mut self.link, asks, expected, heard, self.read) {
+            Ok(()) => {
+                self.read = self.read.saturating_add(heard.len() as u64);
+                Ok(())
+            }
+            Err(fault) => {
+                self.fault = Some(fault);
+                Err(fault)
+            }
+        }
+    }
+
+    // A cycle whose addresses have the address width, where no fault is kept.
+    fn narrow_cycle(&mut self, alloc: Global, ops: &[HostOp]) -> Result<Vec<HostAnswer>, HostFault>
+        requires most { length ops.now ≤ 64 }
+        requires fit { All (FitsOp (sent_header self.old)) ops.now }
+        ensures calls { Calls (cycle_records (sent_header self.old) ops.now) (answered (sent_header self.old) ops.now)
+            (host_state L.reading L.writing self.old) (host_state L.reading L.writing self.new) (given result) }
+        ensures count { IfOk result (λ answers. length answers.items ≡ length ops.now) }
+        ensures words { IfOk result (λ answers. All (FitsPort (sent_header self.old)) answers.items) }
+        ensures header { sent_header self.new ≡ sent_header self.old }
+    {
+        let header = self.header();
+        let mut asks = Vec::new(alloc);
+        match put_cycle(alloc, header, ops, &mut asks) {
+            Ok(()) => {}
+            Err(NoMemory) => return Err(HostFault::NoMemory),
+        }
+        let mut expected = Vec::new(alloc);
+        match expect_cycle(&mut expected, header, ops) {
+            Ok(()) => {}
+            Err(NoMemory) => return Err(HostFault::NoMemory),
+        }
+        let mut heard = match Vec::with_capacity(alloc, expected.len()) {
+            Ok(heard) => heard,
+            Err(_) => return Err(HostFault::NoMemory),
+        };
+        let mut answers = match Vec::with_capacity(alloc, ops.len()) {
+            Ok(answers) => answers,
+            Err(_) => return Err(HostFault::NoMemory),
+        };
+        match self.send(&asks, &expected, &mut heard) {
+            Ok(()) => {}
+            Err(fault) => return Err(fault),
+        }
+        take_answers(header, ops, &heard, &mut answers);
+        Ok(answers)
+    }
+
+    /// Runs 1 to 64 operations as one cycle, and answers each: the word that was read, 0 for a write, or an error of
+    /// the bus (ERR or RTY).
+    ///
+    /// The data have the port's width. A fault of the link or of a reply is kept, and answered from then on, without
+    /// anything being sent. `TooWide` comes exactly where no fault is kept and an address is wider than the address
+    /// width, with the first such address. It and `NoMemory` come before anything is sent, and aren't kept.
+    pub fn cycle(&mut self, alloc: Global, ops: &[HostOp]) -> Result<Vec<HostAnswer>, HostFault>
+        requires least { 0 < length ops.now }
+        requires most { length ops.now ≤ 64 }
+        requires fit { All (λ op. op.dat < 256 ^ octets (sent_header self.old).port) ops.now }
+        ensures cycle { RunsCycle (host_state L.reading L.writing self.old) (host_state L.reading L.writing self.new)
+            ops.now (given result) }
+        ensures count { IfOk result (λ answers. length answers.items ≡ length ops.now) }
+        ensures words { IfOk result (λ answers. All (FitsPort (sent_header self.old)) answers.items) }
+        ensures header { sent_header self.new ≡ sent_header self.old }
+    {
+        if let Some(fault) = self.fault {
+            return Err(fault);
+        }
+        if let Some(adr) = too_wide(self.header(), ops) {
+            return Err(HostFault::TooWide(adr));
+        }
+        self.narrow_cycle(alloc, ops)
+    }
+
+    // A cycle of one operation.
+    fn one(&mut self, alloc: Global, op: HostOp) -> Result<HostAnswer, HostFault>
+        requires fit { op.dat < 256 ^ octets (sent_header self.old).port }
+        ensures cycle { RunsCycle (host_state L.reading L.writing self.old) (host_state L.reading L.writing self.new)
+            (op ∷ []) (alone result) }
+        ensures word { IfOk result (FitsPort (sent_header self.old)) }
+        ensures header { sent_header self.new ≡ sent_header self.old }
+    {
+        match self.cycle(alloc, &[op]) {
+            Ok(answers) => Ok(answers[0]),
+            Err(fault) => Err(fault),
+        }
+    }
+
+    /// Reads the word at an address, as a cycle of its own. Faults are those of `cycle`.
+    pub fn read(&mut self, alloc: Global, adr: u64) -> Result<HostAnswer, HostFault>
+        ensures cycle { RunsCycle (host_state L.reading L.writing self.old) (host_state L.reading L.writing self.new)
+            (record { write = false; adr = adr; dat = 0 } ∷ []) (alone result) }
+        ensures word { IfOk result (FitsPort (sent_header self.old)) }
+        ensures header { sent_header self.new ≡ sent_header self.old }
+    {
+        self.one(
+            alloc,
+            HostOp {
+                write: false,
+                adr,
+                dat: 0,
+            },
+        )
+    }
+
+    /// Writes a word of the port's width to an address, as a cycle of its own. Faults are those of `cycle`.
+    pub fn write(&mut self, alloc: Global, adr: u64, dat: u64) -> Result<HostAnswer, HostFault>
+        requires fit { dat < 256 ^ octets (sent_header self.old).port }
+        ensures cycle { RunsCycle (host_state L.reading L.writing self.old) (host_state L.reading L.writing self.new)
+            (record { write = true; adr = adr; dat = dat } ∷ []) (alone result) }
+        ensures word { IfOk result (FitsPort (sent_header self.old)) }
+        ensures header { sent_header self.new ≡ sent_header self.old }
+    {
+        self.one(
+            alloc,
+            HostOp {
+                write: true,
+                adr,
+                dat,
+            },
+        )
+    }
+
+    /// The address of the table of the root bus, from the slave's configuration space. Faults are those of `cycle`,
+    /// but for `TooWide`.
+    pub fn root(&mut self, alloc: Global) -> Result<u64, HostFault>
+        ensures root { ReadsRoot (host_state L.reading L.writing self.old) (host_state L.reading L.writing self.new)
+            result }
+        ensures header { sent_header self.new ≡ sent_header self.old }
+    {
+        if let Some(fault) = self.fault {
+            return Err(fault);
+        }
+        self.ask_root(alloc)
+    }
+
+    // The same where no fault is kept.
+    fn ask_root(&mut self, alloc: Global) -> Result<u64, HostFault>
+        ensures calls { Calls (closing (sent_header self.old) 8 ∷ []) (root_in (sent_header self.old))
+            (host_state L.reading L.writing self.old) (host_state L.reading L.writing self.new) result }
+        ensures header { sent_header self.new ≡ sent_header self.old }
+    {
+        let header = self.header();
+        let mut asks = Vec::new(alloc);
+        match put_closing(alloc, header, 8, &mut asks) {
+            Ok(()) => {}
+            Err(NoMemory) => return Err(HostFault::NoMemory),
+        }
+        let mut expected = Vec::new(alloc);
+        match expect_closing(&mut expected, header, 8) {
+            Ok(()) => {}
+            Err(NoMemory) => return Err(HostFault::NoMemory),
+        }
+        let mut heard = match Vec::with_capacity(alloc, expected.len()) {
+            Ok(heard) => heard,
+            Err(_) => return Err(HostFault::NoMemory),
+        };
+        match self.send(&asks, &expected, &mut heard) {
+            Ok(()) => {}
+            Err(fault) => return Err(fault),
+        }
+        Ok(take_root(header, &heard))
+    }
+
+    /// Gives the link back, as the last call left it.
+    pub fn into_link(self) -> L
+        ensures link { result ≡ link_of self }
+    {
+        self.link
+    }
+}
+
+// The number in the reply to the record that reads 8 octets.
+fn take_root(header: Header, heard: &[u8]) -> u64
+    requires fills { Fills heard.now (expects header (closing header 8 ∷ [])) }
+    ensures { result ≡ joined header heard.now 0 (8 / octets header.port) }
+{
+    joined_at(header, heard, 0)
+}
+
+// The answers of a cycle from its replies.
+fn take_answers(header: Header, ops: &[HostOp], heard: &[u8], answers: &mut Vec<HostAnswer>)
+    requires most { length ops.now ≤ 64 }
+    requires fills { Fills heard.now (expects header (cycle_records header ops.now)) }
+    requires empty { answers.old.items ≡ [] }
+    requires room { length ops.now ≤ vec_capacity answers.old }
+    ensures same { answers.new.items ≡ answered header ops.now heard.now }
+    ensures count { length answers.new.items ≡ length ops.now }
+    ensures fit { All (FitsPort header) answers.new.items }
+{
+    let errors = joined_at(header, heard, closing_at(header, ops));
+    put_answers(header, ops, heard, errors, answers);
+}

@@ -1,0 +1,7 @@
+pub mod BitLemmas
+pub mod AskingLemmas
+pub mod OneReplyLemmas
+pub mod ClosingLemmas
+pub mod ReplyingLemmas
+pub mod SpellingLemmas
+pub mod OpeningLemmas
