@@ -3,10 +3,9 @@
 ghost use Rattle.std.specs.Prelude.{◌≡◌, ◌≤◌, [], length, vec_capacity};
 ghost use Rattle.eb_host.specs.Exchange.{Exchanges, duplex};
 
-use crate::Link;
 use crate::hearing::{Heard, hear};
 use crate::op::HostFault;
-use eb_io::{WriteFault, put_all};
+use eb_io::{Link, WriteFault, put_all};
 
 // Sends octets, and reads those that are expected in reply.
 pub fn exchange<L: Link>(

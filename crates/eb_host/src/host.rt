@@ -11,7 +11,6 @@ ghost use Rattle.eb_host.specs.Host.{too_wide as too_wide_in, header as header_w
 ghost use Rattle.eb_host.specs.Opening.{Opened, NotOpened};
 ghost use Rattle.eb_host.specs.View.{link_of, sent_header, host_state};
 
-use crate::Link;
 use crate::asks::{put_closing, put_cycle};
 use crate::exchange::exchange;
 use crate::expected::{expect_closing, expect_cycle};
@@ -21,6 +20,7 @@ use crate::replies::{closing_at, joined_at, put_answers};
 use eb_base::{NoMemory, Width, Widths};
 use eb_codec::Header;
 use eb_codec::sizes::unit_len;
+use eb_io::Link;
 use std::alloc::Global;
 
 /// The host at one end of a link, which a slave of Etherbone 1.0 serves at the other.

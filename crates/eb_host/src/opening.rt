@@ -6,13 +6,13 @@ ghost use Rattle.eb_host.specs.Exchange.{duplex};
 ghost use Rattle.eb_host.specs.Host.{header as header_with};
 ghost use Rattle.eb_host.specs.Opening.{sets_in, greatest as greatest_in, common as common_of, Probes, Heads, Shaken, Fails};
 
-use crate::Link;
 use crate::exchange::exchange;
 use crate::op::HostFault;
 use eb_base::{Width, Widths};
 use eb_codec::Header;
 use eb_codec::flags::{MAGIC, NR, PF, PR, VERSION};
 use eb_codec::sizes::unit_len;
+use eb_io::Link;
 
 // The id of the probe.
 const PROBE_ID: u8 = 1;

@@ -1,24 +1,21 @@
 -- What a reader over a host tells, and what one read does.
-use Rattle.std.specs.Prelude.{◌≡◌, ℕ, List, [], ◌∷◌, map, Result, Ok, Err, Option, Some, false}
-use Rattle.sdb_walk.specs.Told.{Exchange, Word}
+use Rattle.std.specs.Prelude.{◌≡◌, ℕ, List, [], ◌∷◌, Result, Ok, Err, Option, Some, false}
+use Rattle.sdb_walk.specs.Told.{Word}
+use Rattle.sdb_walk.specs.declared.reader.Exchange.{Exchange}
 use Rattle.sdb_walk.specs.declared.reader.NoWord.TheVariants.{BusError, Cause}
 use Rattle.eb_host.specs.declared.host.Host.{Host}
 use Rattle.eb_host.specs.declared.op.HostAnswer.{HostAnswer}
 use Rattle.eb_host.specs.declared.op.HostAnswer.TheVariants.{Done, Error}
 use Rattle.eb_host.specs.declared.op.HostFault.{HostFault}
 use Rattle.eb_host.specs.Host.{HostState, RunsCycle, alone}
-use Rattle.eb_reader.specs.declared.reader.Exchange.{Exchange as Kept}
 use Rattle.eb_reader.specs.declared.reader.HostReader.{HostReader}
 
 abbrev pub host_of : {L : Type 0} → HostReader L → Host L
 host_of reader = reader.host
 
-abbrev pub exchange_of : Kept → Exchange HostFault
-exchange_of e = record { adr = e.adr; word = e.word }
-
 -- all that was asked
 abbrev pub told_of : {L : Type 0} → HostReader L → Option (List (Exchange HostFault))
-told_of reader = Some (map exchange_of reader.asked)
+told_of reader = Some reader.asked
 
 -- the word of a host's answer
 abbrev pub word_in : Result HostAnswer HostFault → Word HostFault

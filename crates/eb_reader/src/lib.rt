@@ -8,4 +8,4 @@
 
 mod reader;
 
-pub use reader::{Exchange, HostReader};
+pub use reader::HostReader;

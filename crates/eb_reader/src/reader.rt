@@ -6,17 +6,11 @@ ghost use Rattle.eb_base.specs.declared.width.Width.TheVariants.{W32};
 ghost use Rattle.sdb_walk.specs.Told.{with_exchange};
 ghost use Rattle.eb_host.specs.View.{sent_header, host_state};
 
-use eb_host::{Host, HostAnswer, HostFault, Link};
-use sdb_walk::{NoWord, WordReader};
+use eb_host::{Host, HostAnswer, HostFault};
+use eb_io::Link;
+use sdb_walk::{Exchange, NoWord, WordReader};
 use soc_trail::Trail;
 use std::alloc::Global;
-
-/// An address that was asked for, and the answer.
-#[derive(Drop)]
-pub struct Exchange {
-    pub adr: u64,
-    pub word: Result<u32, NoWord<HostFault>>,
-}
 
 /// Reads words through a host whose port has 32 bits, each as a cycle of its own. Clauses see all that was asked and
 /// answered; memory keeps none of it.
@@ -24,7 +18,7 @@ pub struct Exchange {
 pub struct HostReader<L> {
     host: Host<L>,
     alloc: Global,
-    asked: Trail<Exchange>,
+    asked: Trail<Exchange<HostFault>>,
     ghost port: { (sent_header host).port ≡ W32 },
 }
 

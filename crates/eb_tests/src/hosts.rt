@@ -1,51 +1,10 @@
-ghost use Rattle.std.specs.Prelude.{refl};
-
 use eb_base::{NoMemory, Widths};
-use eb_host::{Host, HostAnswer, HostFault, HostOp, Link};
-use eb_io::{Got, MemSink, MemSource, Put, Sink, Source};
+use eb_host::{Host, HostAnswer, HostFault, HostOp};
+use eb_io::{MemLink, MemSink, MemSource};
 use eb_reader::HostReader;
 use sdb_walk::{NoWord, WordReader};
 use std::alloc::Global;
 use std::test::Fail;
-
-// A link in memory: it gives replies, and keeps what is written.
-#[derive(Drop)]
-struct Replies {
-    source: MemSource,
-    sink: MemSink,
-}
-
-impl Source for Replies {
-    ghost use Rattle.eb_io.specs.MemSource.{reading_of};
-    ghost use Rattle.eb_io.specs.MemSink.{writing_of};
-
-    ghost reading = { λ r. reading_of r.source };
-
-    ghost beside_reads = { λ r. writing_of r.sink };
-
-    fn read(&mut self, room: &mut [u8]) -> Got {
-        self.source.read(room)
-    }
-}
-
-impl Sink for Replies {
-    ghost use Rattle.eb_io.specs.MemSource.{reading_of};
-    ghost use Rattle.eb_io.specs.MemSink.{writing_of};
-
-    ghost writing = { λ r. writing_of r.sink };
-
-    ghost beside_writes = { λ r. reading_of r.source };
-
-    fn write(&mut self, piece: &[u8]) -> Put {
-        self.sink.write(piece)
-    }
-}
-
-impl Link for Replies {
-    ghost tells_writes = { λ r. refl };
-
-    ghost tells_reads = { λ r. refl };
-}
 
 // A link with these replies, which gives 3 octets a read and takes 5 a write. The reads and writes with these numbers
 // fail.
@@ -54,20 +13,19 @@ fn failing_link(
     replies: &[u8],
     reads: &[u64],
     writes: &[u64],
-) -> Result<Replies, NoMemory> {
+) -> Result<MemLink, NoMemory> {
     let octets = Vec::from_slice(alloc, replies)?;
-    Ok(Replies {
-        source: MemSource::new(octets, 3, Vec::from_slice(alloc, reads)?),
-        sink: MemSink::new(alloc, 200, 5, Vec::from_slice(alloc, writes)?)?,
-    })
+    let source = MemSource::new(octets, 3, Vec::from_slice(alloc, reads)?);
+    let sink = MemSink::new(alloc, 200, 5, Vec::from_slice(alloc, writes)?)?;
+    Ok(MemLink::new(source, sink))
 }
 
-fn link(alloc: Global, replies: &[u8]) -> Result<Replies, NoMemory> {
+fn link(alloc: Global, replies: &[u8]) -> Result<MemLink, NoMemory> {
     failing_link(alloc, replies, &[], &[])
 }
 
 // A host with all widths of addresses and a port of 32 bits.
-fn open(link: Replies, alloc: Global) -> Result<Host<Replies>, HostFault> {
+fn open(link: MemLink, alloc: Global) -> Result<Host<MemLink>, HostFault> {
     let widths = Widths {
         addresses: 15,
         ports: 4,
@@ -117,7 +75,7 @@ fn one_read(rt: HostRuntime) -> Result<(), Fail> {
     };
     assert_eq!(rt; host.read(alloc, 0x10), Ok(HostAnswer::Done(0xdead_beef)));
     let link = host.into_link();
-    assert_eq!(rt; link.sink.octets(), ASKED.as_slice());
+    assert_eq!(rt; link.octets(), ASKED.as_slice());
     Ok(())
 }
 
@@ -131,7 +89,7 @@ fn fault_is_kept(rt: HostRuntime) -> Result<(), Fail> {
     assert_eq!(rt; host.read(alloc, 0x10), Err(HostFault::Ended(40)));
     assert_eq!(rt; host.root(alloc), Err(HostFault::Ended(40)));
     let link = host.into_link();
-    assert_eq!(rt; link.sink.octets(), ASKED.as_slice());
+    assert_eq!(rt; link.octets(), ASKED.as_slice());
     Ok(())
 }
 
@@ -145,7 +103,7 @@ fn failed_calls(rt: HostRuntime) -> Result<(), Fail> {
     Ok(())
 }
 
-// Replies that are cut after so many octets.
+// MemLink that are cut after so many octets.
 static CUTS: [usize; 8] = [0, 7, 8, 15, 16, 39, 40, 71];
 
 #[test]
@@ -159,7 +117,7 @@ fn cut_replies(rt: HostRuntime) -> Result<(), Fail> {
     Ok(())
 }
 
-// Replies of which one octet is inverted, and what the read answers.
+// MemLink of which one octet is inverted, and what the read answers.
 static TURNED: [(usize, Result<HostAnswer, HostFault>); 12] = [
     (0, Err(HostFault::BadReply(0))),
     (
@@ -205,7 +163,7 @@ static NARROW: [u8; 72] = [
 ];
 
 // A cycle of two operations.
-fn write_and_read(host: &mut Host<Replies>, alloc: Global) -> Result<Vec<HostAnswer>, HostFault> {
+fn write_and_read(host: &mut Host<MemLink>, alloc: Global) -> Result<Vec<HostAnswer>, HostFault> {
     let write = HostOp {
         write: true,
         adr: 0x4_0000,
@@ -240,7 +198,7 @@ fn narrow_addresses(rt: HostRuntime) -> Result<(), Fail> {
 }
 
 // A reader over a host with a port of 32 bits.
-fn reader(link: Replies, alloc: Global) -> Result<HostReader<Replies>, HostFault> {
+fn reader(link: MemLink, alloc: Global) -> Result<HostReader<MemLink>, HostFault> {
     let widths = Widths {
         addresses: 15,
         ports: 4,
