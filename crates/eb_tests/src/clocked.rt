@@ -15,7 +15,7 @@ use wb_tree::{Node, Part};
 
 /// The clock in which an operation is answered that passes in clock 1, its answer, and the clocks that stall another
 /// one until then, as bits.
-type Course = (u32, Option<Answer>, u32);
+pub type Course = (u32, Option<Answer>, u32);
 
 /// A device of each kind on a bus of 32 data bits: a RAM, registers, a FIFO and a ROM.
 fn device(alloc: Global, kind: u8) -> Result<Device, NoMemory>
@@ -46,7 +46,7 @@ fn wide(alloc: Global, kind: u8) -> Result<Device, NoMemory>
 }
 
 /// A ROM with the words 1 and 2 of 32 bits.
-fn rom(alloc: Global, bus: Width) -> Result<Device, NoMemory>
+pub fn rom(alloc: Global, bus: Width) -> Result<Device, NoMemory>
     requires width { IsBusWidth bus }
     ensures roomy { IfOk result (IsRoomy bus) }
 {
@@ -57,7 +57,7 @@ fn rom(alloc: Global, bus: Width) -> Result<Device, NoMemory>
 }
 
 /// The device with a wait of 2 on a bus of this width, by its port word: pipelined, classic or wrapped.
-fn leaf(device: Device, bus: Width, port: u8) -> Node
+pub fn leaf(device: Device, bus: Width, port: u8) -> Node
     requires roomy { IsRoomy bus device }
     ensures quiet { IsQuietNode bus 7 result }
     ensures half { bus ≡ W32 → IsOf32 (node_slave result).wiring }
@@ -199,7 +199,7 @@ fn halved(alloc: Global, port: u8, sel: u8) -> Result<(Course, Course), NoMemory
 }
 
 /// The port words, with the clock of the answer and the clocks that stall.
-static PORTS: [(u8, u32, u32); 3] = [(0, 4, 0), (1, 5, 0b01_1100), (2, 6, 0b11_1100)];
+pub static PORTS: [(u8, u32, u32); 3] = [(0, 4, 0), (1, 5, 0b01_1100), (2, 6, 0b11_1100)];
 
 #[test]
 fn each_device_by_port(rt: HostRuntime) -> Result<(), Fail> {

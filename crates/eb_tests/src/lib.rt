@@ -23,6 +23,8 @@ mod numbers;
 #[cfg(test)]
 mod outside;
 #[cfg(test)]
+mod ports;
+#[cfg(test)]
 mod records;
 #[cfg(test)]
 mod samples;
