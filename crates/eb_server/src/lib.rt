@@ -1,6 +1,6 @@
-//! A whole stream served: read from a source or link in pieces, run by a session on a master, and answered to a sink or the link. Its
-//! contract: what was read, which items ran, what was written for them and how the stream ended, by one definition; and
-//! the laws that octets decide their ending and have one reply.
+//! A whole stream served: read from a source in pieces, run by a session on a master, and answered to a sink; or over a
+//! link, which is both. Its contract: what was read, which items ran, what was written for them and how the stream
+//! ended, by one definition; and the laws that octets decide their ending and have one reply.
 //!
 //! - `serving`: a whole stream, from a source and to a sink
 //! - `stream`: the whole stream of a link

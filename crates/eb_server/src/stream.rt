@@ -22,7 +22,8 @@ fn read_front<L: Link>(link: &mut L, room: &mut [u8]) -> Got
     link.read(room)
 }
 
-// Serves the whole stream of a link, in pieces of at most the room's length. The replies to a piece are gathered in `replies`.
+// Serves the whole stream of a link, in pieces of at most the room's length. The replies to a piece are gathered in
+// `replies`.
 fn serve_link_in<L: Link, M: Master>(
     link: &mut L,
     session: &mut Session,

@@ -1,1 +1,2 @@
 pub mod Quiets
+pub mod Shareds

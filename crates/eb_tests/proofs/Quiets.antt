@@ -1,7 +1,8 @@
 -- Nodes that owe nothing.
-use Rattle.std.proofs.Common.{◌≡◌, ℕ, List, [], ◌∷◌, map, refl, ap, sym, subst}
+use Rattle.std.proofs.Common.{◌≡◌, ℕ, ◌%◌, List, [], ◌∷◌, map, refl, ap, sym, subst}
 use Rattle.eb_base.specs.declared.width.Width.{Width}
-use Rattle.eb_base.specs.declared.width.Width.TheVariants.{W32, W64}
+use Rattle.eb_base.specs.declared.width.Width.TheVariants.{W8, W16, W32, W64}
+use Rattle.eb_base.specs.Width.{octets}
 use Rattle.wb_signals.specs.Slave.{Slave}
 use Rattle.wb_signals.specs.Parts.{Part, FitsIn, AllFitIn}
 use Rattle.wb_signals.specs.Turn.{bus_slave}
@@ -19,8 +20,14 @@ pub one_fits : (width : Width) (p : TreePart) (items : List TreePart) (last : �
     → AllFitIn width (map part_slave items)
 one_fits width p items last n e q f = subst (λ items. AllFitIn width (map part_slave items)) (sym e) (subst (FitsIn width) (sym q) f, tt)
 
-pub bus_quiet : (n : Node) (parts : List Part) (last : ℕ) → AllFitIn W32 parts → node_slave n ≡ bus_slave W32 parts Nobody → IsSound n → IsQuietNode W32 last n
-bus_quiet n parts last f e s = record { sound = s; free = ap (λ (s : Slave). s.owed) e; fits = bus_fits W32 parts 0 last (node_slave n) e f refl }
+zero_word : (width : Width) → 0 % octets width ≡ 0
+zero_word W8 = refl
+zero_word W16 = refl
+zero_word W32 = refl
+zero_word W64 = refl
+
+pub bus_quiet : (width : Width) (n : Node) (parts : List Part) (last : ℕ) → AllFitIn width parts → node_slave n ≡ bus_slave width parts Nobody → IsSound n → IsQuietNode width last n
+bus_quiet width n parts last f e s = record { sound = s; free = ap (λ (s : Slave). s.owed) e; fits = bus_fits width parts 0 last (node_slave n) e f (zero_word width) }
 
 pub narrow_quiet : (n : Node) (parts : List Part) (last : ℕ) → AllFitIn W32 parts → node_slave n ≡ narrow_slave parts Nobody [] → IsSound n → IsQuietNode W64 last n
 narrow_quiet n parts last f e s = record { sound = s; free = ap (λ (s : Slave). s.owed) e; fits = narrow_fits parts 0 last (node_slave n) e f refl }

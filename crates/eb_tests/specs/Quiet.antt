@@ -1,16 +1,15 @@
 -- Devices and nodes of the tests.
 use Rattle.std.specs.Prelude.{◌≡◌, ◌≤◌, ℕ, []}
 use Rattle.eb_base.specs.declared.width.Width.{Width}
-use Rattle.eb_base.specs.declared.width.Width.TheVariants.{W32}
 use Rattle.wb_signals.specs.Content.{size_of}
 use Rattle.wb_signals.specs.Parts.{Part, FitsIn}
 use Rattle.wb_device.specs.State.{DeviceState}
 use Rattle.wb_tree.specs.declared.node.Node.{Node}
 use Rattle.wb_tree.specs.Tree.{node_slave, IsSound}
 
--- a device of two words or more, on a bus of 32 data bits
-pub record IsRoomy (d : DeviceState) : Type 0 where
-  pub bus : d.bus ≡ W32
+-- a device of 8 octets or more, on a bus of this width
+pub record IsRoomy (width : Width) (d : DeviceState) : Type 0 where
+  pub bus : d.bus ≡ width
   pub size : 8 ≤ size_of d.content
 
 abbrev pub first_part : ℕ → Node → Part

@@ -25,6 +25,8 @@ mod numbers;
 #[cfg(test)]
 mod outside;
 #[cfg(test)]
+mod ports;
+#[cfg(test)]
 mod records;
 #[cfg(test)]
 mod samples;

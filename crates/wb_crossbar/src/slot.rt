@@ -1,3 +1,4 @@
+//! A slave of the bus at its addresses.
 ghost use Rattle.std.specs.Prelude.{◌≡◌, ◌≤◌, ◌<◌, ℕ, true, false, map, length, All};
 ghost use Rattle.std.specs.Option.{ForSome, option_map, is_some};
 ghost use Rattle.wb_signals.specs.Request.{less};

@@ -31,6 +31,13 @@ impl Piped {
             line: [None; 16],
         }
     }
+
+    /// Where the line begins: the place of the answer that is due.
+    fn first(&self) -> usize
+        ensures first { result ≡ 15 - self.now.wait }
+    {
+        15 - self.wait as usize
+    }
 }
 
 impl Clocked for Piped {
@@ -46,11 +53,11 @@ impl Clocked for Piped {
     }
 
     fn owes(&self) -> bool {
-        any_answer(&self.line[15 - self.wait as usize..])
+        any_answer(&self.line[self.first()..])
     }
 
     fn tick(&mut self, op: Option<Op>) -> Option<Answer> {
-        let answer = self.line[15 - self.wait as usize];
+        let answer = self.line[self.first()];
         let next = apply_given(&mut self.device, op);
         shift(&mut self.line, next);
         answer

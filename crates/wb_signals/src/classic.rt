@@ -1,3 +1,4 @@
+//! A classic slave.
 ghost use Rattle.std.specs.Prelude.{◌≡◌, true};
 ghost use Rattle.std.specs.Option.{ForSome};
 ghost use Rattle.wb_signals.specs.Standing.{ClassicSlave, KeepsStanding, told_by, stood_by};

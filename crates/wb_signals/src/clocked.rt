@@ -1,3 +1,4 @@
+//! A slave on a clock.
 ghost use Rattle.std.specs.Prelude.{◌≡◌, true, false};
 ghost use Rattle.std.specs.Option.{ForSome};
 ghost use Rattle.wb_signals.specs.Slave.{Slave, given, ticked, is_stalled, owes};

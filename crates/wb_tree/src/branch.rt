@@ -1,3 +1,4 @@
+//! The inside of a bus.
 ghost use Rattle.std.specs.Prelude.{◌≡◌, ◌<◌, true, false, map, length, IfOk};
 ghost use Rattle.std.specs.Option.{ForSome};
 ghost use Rattle.wb_signals.specs.Slave.{given, ticked, is_stalled, owes};

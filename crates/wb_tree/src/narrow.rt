@@ -1,3 +1,4 @@
+//! A bus of 32 data bits behind a port of 64.
 ghost use Rattle.std.specs.Prelude.{◌≡◌, true, false, Some};
 ghost use Rattle.std.specs.Option.{ForSome};
 ghost use Rattle.eb_base.specs.declared.width.Width.TheVariants.{W32};

@@ -1,3 +1,4 @@
+//! A node of a tree: a device, or a bus.
 ghost use Rattle.std.specs.Prelude.{◌≡◌, ◌≤◌, ◌+◌, true, false, [], map, IfOk};
 ghost use Rattle.eb_base.specs.declared.width.Width.TheVariants.{W32};
 ghost use Rattle.wb_signals.specs.Parts.{child_of, AllFitIn, AllQuiet};

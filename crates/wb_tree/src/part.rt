@@ -1,3 +1,4 @@
+//! A child of a bus.
 ghost use Rattle.std.specs.Prelude.{◌≡◌, ◌≤◌, true};
 ghost use Rattle.std.specs.Option.{ForSome, option_map};
 ghost use Rattle.wb_signals.specs.Request.{less};

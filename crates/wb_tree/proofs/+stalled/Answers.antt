@@ -50,7 +50,8 @@ pub branch::Branch::stalled-returns-else-to-k : goal.branch::Branch::stalled-ret
 branch::Branch::stalled-returns-else-to-k t c =
     let b = c.args.self.now in
     let k = c.find-to.ensures.at ∙ ap (λ parts. child_at (map child_of (map part_slave parts)) c.op.inside.adr) c.deref.ensures.value ∙ ap (λ (x : Request). child_at (map child_of (branch_parts b)) x.adr) c.op.view_is in
-    record { stalled = Trees.stalls_elsewhere b c.requires.sound c.args.op.now c.requires.taken c.find-to.result k c.in-Top.k c.in-Top.is c.if-to-k.false }
+    let e = Trees.stalls_elsewhere b c.requires.sound c.args.op.now c.requires.taken c.find-to.result k c.in-Top.k c.in-Top.is c.if-to-k.false in
+    record { stalled = search (rules, e) }
 
 pub node::NodeClocked::stalled-stalled-requires-in-Classic-clause-sound : goal.node::NodeClocked::stalled-stalled-requires-in-Classic-clause-sound
 node::NodeClocked::stalled-stalled-requires-in-Classic-clause-sound t c = Trees.classic_held c.args.self.now c.in-Classic.slave c.in-Classic.is c.requires.sound

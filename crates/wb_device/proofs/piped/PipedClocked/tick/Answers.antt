@@ -4,7 +4,7 @@ use Rattle.wb_device.proofs.Lines.{given-line, piped_ticked}
 use Rattle.wb_device.proofs.piped.PipedClocked.tick.Goals as goal
 
 pub returns-clause-answer : goal.returns-clause-answer
-returns-clause-answer c = given-line (15 - c.args.self.now.wait) c.args.self.now.line (omega arith)
+returns-clause-answer c = rw c.first.ensures.first (given-line (15 - c.args.self.now.wait) c.args.self.now.line (omega arith))
 
 pub returns-clause-after : goal.returns-clause-after
 returns-clause-after c =

@@ -1,0 +1,127 @@
+ghost use Rattle.std.specs.Prelude.{◌≡◌, ◌%◌, ◌<◌, IfOk};
+ghost use Rattle.eb_base.specs.declared.width.Width.TheVariants.{W32};
+ghost use Rattle.wb_signals.specs.Cycles.{FitsBus};
+ghost use Rattle.eb_tests.specs.Shared.{IsShared};
+
+use crate::clocked::{Course, PORTS, leaf, rom};
+use eb_base::{NoMemory, Width};
+use std::alloc::Global;
+use std::test::Fail;
+use wb_crossbar::{Arbiter, Crossbar, Slot};
+use wb_port::Port;
+use wb_signals::{Answer, Op, PortRow, SlaveSet};
+use wb_tree::Node;
+
+fn read(adr: u64) -> Op
+    requires word { adr % 4 ≡ 0 }
+    ensures fits { FitsBus W32 result }
+{
+    Op {
+        write: false,
+        adr,
+        dat: 0,
+        sel: 15,
+    }
+}
+
+/// A crossbar of one port, with a ROM by its port word at address 0.
+fn crossbar(alloc: Global, port: u8) -> Result<Crossbar<Node>, NoMemory>
+    ensures shared { IfOk result IsShared }
+{
+    let node = leaf(rom(alloc, Width::W32)?, Width::W32, port);
+    let slot = Slot {
+        first: 0,
+        last: 7,
+        node,
+    };
+    let slots = vec![in alloc; slot]?;
+    let crossbar = Crossbar::new(alloc, slots, 1, Width::W32)?;
+    Ok(crossbar)
+}
+
+/// A clock in which the port, which holds the slave, requests an operation.
+fn clock(crossbar: &mut Crossbar<Node>, op: Op) -> PortRow
+    requires shared { IsShared crossbar.old }
+    requires fits { FitsBus W32 op }
+    ensures shared { IsShared crossbar.new }
+{
+    let row = PortRow {
+        cyc: true,
+        stb: true,
+        we: op.write,
+        adr: op.adr,
+        dat: op.dat,
+        sel: op.sel,
+        ..PortRow::none()
+    };
+    let mut rows = [row];
+    crossbar.tick(&mut rows, &[Some(0)]);
+    rows[0]
+}
+
+/// The course of an operation that is requested in each clock until it is answered.
+fn course(crossbar: Crossbar<Node>, op: Op) -> Course
+    requires shared { IsShared crossbar }
+    requires fits { FitsBus W32 op }
+{
+    let mut crossbar = crossbar;
+    let mut stalls = 0;
+    clock(&mut crossbar, op);
+    for clocks in 2..8 {
+        let row = clock(&mut crossbar, op);
+        if row.stall {
+            stalls |= 1 << clocks;
+        }
+        if row.ack {
+            return (clocks, Some(Answer::Ack(row.read)), stalls);
+        }
+        if row.err {
+            return (clocks, Some(Answer::Err), stalls);
+        }
+    }
+    (8, None, stalls)
+}
+
+fn courses(alloc: Global, port: u8) -> Result<(Course, Course), NoMemory> {
+    let (hit, miss) = (crossbar(alloc, port)?, crossbar(alloc, port)?);
+    Ok((course(hit, read(4)), course(miss, read(8))))
+}
+
+#[test]
+fn one_port(rt: HostRuntime) -> Result<(), Fail> {
+    for row in &PORTS {
+        let (port, clock, stalls) = *row;
+        let hit = (clock, Some(Answer::Ack(2)), stalls);
+        let miss = (2, Some(Answer::Err), 0);
+        let told = courses(rt.alloc(), port).ok().ok_or("room")?;
+        assert_eq!(rt; told, (hit, miss), "{port}");
+    }
+    Ok(())
+}
+
+// The slaves 0 and 1 by themselves, then both.
+#[test]
+fn grants_in_turn(rt: HostRuntime) -> Result<(), Fail> {
+    let (zero, one) = (Some(SlaveSet(0b01)), Some(SlaveSet(0b10)));
+    let both = Some(SlaveSet(0b11));
+    let mut arbiter = Arbiter::new(3);
+    let first = arbiter.step(&[zero, both, one], SlaveSet(0));
+    let second = arbiter.step(&[None, both, None], SlaveSet(0b11));
+    let third = arbiter.step(&[zero, both, None], SlaveSet(0));
+    assert_eq!(rt; (first, second, third), (5, 0, 1));
+    Ok(())
+}
+
+// A port with one request unanswered drives no other.
+#[test]
+fn one_at_a_time(rt: HostRuntime) -> Result<(), Fail> {
+    let mut port = Port::new(rt.alloc(), 1).ok().ok_or("room")?;
+    port.load(&[read(0)]);
+    let first = port.drive();
+    port.sample(true, None);
+    let second = port.drive();
+    port.sample(false, Some(Answer::Ack(7)));
+    assert_eq!(rt; (first, second), (Some(read(0)), None));
+    assert_eq!(rt; (port.done(), port.answer(0)), (true, Answer::Ack(7)));
+    Ok(())
+}
