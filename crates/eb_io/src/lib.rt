@@ -1,8 +1,8 @@
 //! The outside as traits: `Source`, `Sink`, `Link`, `World`, with memory forms that tell their contents, and adapters
 //! for readers and writers of std, real files among them. What an object tells is one ghost record a trait; content
-//! that isn't told makes an equation trivial and never a premise. A call answers `Failed` only where its count of faults
-//! rose, and the other answers leave the counts as before. A text is written in one way: lines that are made in place
-//! (`Line`), `put_all`, and `?`.
+//! that isn't told makes an equation trivial and never a premise. A call answers `Failed` only where its count of
+//! faults rose, and the other answers leave the counts as before. A text is written in one way: lines that are made in
+//! place (`Line`), `put_all`, and `?`.
 //!
 //! - `source`: the trait `Source`, reading to the end, a source in memory
 //! - `sink`: the trait `Sink`, writing a whole text, a sink in memory
