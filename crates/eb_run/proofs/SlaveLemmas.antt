@@ -1,6 +1,7 @@
 -- What the stream of a slave came to, from what its session and its master came to.
 use Rattle.std.proofs.Common.{◌≡◌, ℕ, List, [], ◌++◌, sym, ◌∙◌, ap, subst}
 use Rattle.std.specs.Prelude.{All}
+use Rattle.eb_base.specs.declared.width.Width.TheVariants.{W32}
 use Rattle.eb_io.specs.Reading.{Reading}
 use Rattle.eb_io.specs.Writing.{Writing}
 use Rattle.wb_signals.specs.History.{Entry, IsLegal, given}
@@ -37,5 +38,5 @@ served_on s old new source source' out out' e is_new began legal served =
     }
 
 -- a slave of a machine of one RAM, without a table
-pub ram_is : {R : Type 0} (octets : ℕ) (b : PlainSlave R) → IsMade (built_with_ram octets) 0 b → system_of b ≡ ram_system octets
+pub ram_is : {R : Type 0} (octets : ℕ) (b : PlainSlave R) → IsMade (built_with_ram W32 octets) 0 b → system_of b ≡ ram_system octets
 ram_is octets b made = λ i. record { slave = made.slave_is i; wiring = wiring_of (made.machine_is i); contents = (made.machine_is i).contents }

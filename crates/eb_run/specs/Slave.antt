@@ -4,7 +4,7 @@ use Rattle.eb_base.specs.declared.width.Width.TheVariants.{W32}
 use Rattle.wb_signals.specs.History.{Entry}
 use Rattle.eb_session.specs.Keeping.{new_session}
 use Rattle.eb_server.specs.Rooms.{HasRoom}
-use Rattle.soc_machine.specs.Machine.{MachineState, wiring_of}
+use Rattle.soc_machine.specs.Machine.{MachineState, machine_width, wiring_of}
 use Rattle.soc_machine.specs.Plain.{new_plain}
 use Rattle.eb_run.specs.Streams.{System}
 use Rattle.eb_run.specs.declared.slave.PlainSlave.{PlainSlave}
@@ -20,7 +20,7 @@ entries_of s = s.master.made
 -- No stream was served on it.
 pub record IsNewSlave {R : Type 0} (s : PlainSlave R) : Type 0 where
   pub session : s.session ≡ new_session s.session.slave
-  pub width : s.session.slave.bus ≡ W32
+  pub width : s.session.slave.bus ≡ machine_width s.master.began
   pub master : s.master ≡ new_plain s.master.began 0
   pub room : HasRoom s.rooms
 

@@ -9,6 +9,7 @@ use crate::files::read_description;
 use crate::load::load;
 use crate::slave::PlainSlave;
 use crate::streams::answer_capture;
+use eb_base::Width;
 use eb_io::{Sink, World, put_all};
 use eb_text::{Command, Fault, command_of, write_build};
 use sdb_build::images;
@@ -29,7 +30,7 @@ fn answer_ram<W: World, O: Sink>(
         (run_of W.File.reading (W.outside world.old) (W.outside world.new) (O.writing out.old) (O.writing out.new))
         (AnswerRam octets capture.now) result }
 {
-    let Ok(machine) = Machine::ram(alloc, octets) else {
+    let Ok(machine) = Machine::ram(alloc, octets, Width::W32) else {
         return Err(Fault::NoMemory);
     };
     let Ok(mut slave) = PlainSlave::new(alloc, Unkept::new(), machine, 0) else {

@@ -1,12 +1,13 @@
 // Answers a generated stream.
 ghost use Rattle.std.specs.Prelude.{IfOk};
+ghost use Rattle.eb_base.specs.declared.width.Width.TheVariants.{W32};
 ghost use Rattle.eb_load.specs.Summary.{summary_text};
 ghost use Rattle.soc_machine.specs.Machine.{built_with_ram};
 ghost use Rattle.eb_run.specs.Slave.{IsMade};
 ghost use Rattle.eb_run.specs.Commands.{MakesText, Summed};
 
 use crate::slave::PlainSlave;
-use eb_base::NoMemory;
+use eb_base::{NoMemory, Width};
 use eb_io::{CountSink, Sink};
 use eb_load::{Counted, LoadSource, Summary};
 use eb_server::Ending;
@@ -25,7 +26,7 @@ fn summary_of(
     cycles: u32,
     slave: &mut PlainSlave<Counted<Unkept>>,
 ) -> Result<Summary, NoMemory>
-    requires made { IsMade (built_with_ram 65536) 0 slave.old }
+    requires made { IsMade (built_with_ram W32 65536) 0 slave.old }
     ensures summed { IfOk result (λ s. Summed start cycles (summary_text s)) }
 {
     let mut source = LoadSource::new(start, cycles);
@@ -45,7 +46,7 @@ fn summary_of(
 pub fn load<O: Sink>(alloc: Global, start: u32, cycles: u32, out: &mut O) -> Result<(), Fault>
     ensures makes { MakesText (O.writing out.old) (O.writing out.new) (Summed start cycles) result }
 {
-    let Ok(machine) = Machine::ram(alloc, RAM) else {
+    let Ok(machine) = Machine::ram(alloc, RAM, Width::W32) else {
         return Err(Fault::NoMemory);
     };
     let Ok(mut slave) = PlainSlave::new(alloc, Counted::new(Unkept::new()), machine, 0) else {

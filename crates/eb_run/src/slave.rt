@@ -1,5 +1,7 @@
 // A slave with the master that it has for itself, on which a stream is served.
 ghost use Rattle.std.specs.Prelude.{◌≡◌, [], IfOk};
+ghost use Rattle.eb_base.specs.declared.width.Width.TheVariants.{W32};
+ghost use Rattle.soc_machine.specs.Machine.{machine_width};
 ghost use Rattle.eb_run.specs.Streams.{ServedOn};
 ghost use Rattle.eb_run.specs.Slave.{IsNewSlave, IsMade, system_of, entries_of};
 
@@ -33,6 +35,7 @@ impl<R: Recorder> PlainSlave<R> {
     ) -> Result<PlainSlave<R>, NoMemory>
         requires made { R.made recorder ≡ [] }
         requires opened { R.opened recorder ≡ [] }
+        requires width { machine_width machine ≡ W32 }
         ensures new { IfOk result (IsMade machine root) }
     {
         let bus = Width::W32;

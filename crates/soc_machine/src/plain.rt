@@ -1,9 +1,8 @@
 //! A master over a machine of its own.
 ghost use Rattle.std.specs.Prelude.{◌≡◌, ◌≢◌, ◌≤◌, ◌+◌, ◌++◌, [], length, OnOk, vec_capacity};
-ghost use Rattle.eb_base.specs.declared.width.Width.TheVariants.{W32};
 ghost use Rattle.wb_signals.specs.Cycles.{AllFitBus, ended, made_after, opened_after};
 ghost use Rattle.wb_signals.specs.History.{IsLegal, answers_of, contents_after, cycle};
-ghost use Rattle.soc_machine.specs.Machine.{wiring_of};
+ghost use Rattle.soc_machine.specs.Machine.{machine_width, wiring_of};
 ghost use Rattle.soc_machine.specs.Plain.{IsPlain, new_plain};
 
 use crate::machine::Machine;
@@ -72,14 +71,13 @@ impl<R: Recorder> PlainMaster<R> {
 }
 
 impl<R: Recorder> Master for PlainMaster<R> {
-    ghost use Rattle.eb_base.specs.declared.width.Width.TheVariants.{W32};
-    ghost use Rattle.soc_machine.specs.Machine.{MachineState};
+    ghost use Rattle.soc_machine.specs.Machine.{MachineState, machine_width};
 
     ghost cycles = { λ p. record { made = p.made; opened = p.opened } };
 
     ghost Kept = { MachineState };
 
-    ghost identity = { λ p. record { bus = W32; number = p.number; kept = p.began } };
+    ghost identity = { λ p. record { bus = machine_width p.began; number = p.number; kept = p.began } };
 
     ghost answered = { λ p. p.answered };
 
@@ -134,7 +132,7 @@ fn make_room<R: Recorder>(
 /// Runs operations one after the other. Each is added to the open cycle with its answer, and the answers are those to
 /// them.
 fn run<R: Recorder>(machine: &mut Machine, ops: &[Op], recorder: &mut R, answers: &mut Vec<Answer>)
-    requires fit { AllFitBus W32 ops.now }
+    requires fit { AllFitBus (machine_width machine.old) ops.now }
     requires room { length ops.now ≤ R.room recorder.old }
     requires answers_room { length ops.now ≤ vec_capacity answers.old }
     ensures contents { machine.new.contents ≡ contents_after (wiring_of machine.old) machine.old.contents ops.now }
