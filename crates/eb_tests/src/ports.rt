@@ -9,7 +9,7 @@ use std::alloc::Global;
 use std::test::Fail;
 use wb_crossbar::{Arbiter, Crossbar, Slot};
 use wb_port::Port;
-use wb_signals::{Answer, Op, PortRow, SlaveSet};
+use wb_signals::{Answer, Op, PortRow, SlaveSet, WaveRow};
 use wb_tree::Node;
 
 fn read(adr: u64) -> Op
@@ -123,5 +123,19 @@ fn one_at_a_time(rt: HostRuntime) -> Result<(), Fail> {
     port.sample(false, Some(Answer::Ack(7)));
     assert_eq!(rt; (first, second), (Some(read(0)), None));
     assert_eq!(rt; (port.done(), port.answer(0)), (true, Answer::Ack(7)));
+    Ok(())
+}
+
+#[test]
+fn signals_of_a_bus(rt: HostRuntime) -> Result<(), Fail> {
+    let alloc = rt.alloc();
+    let asks = PortRow {
+        cyc: true,
+        ..PortRow::none()
+    };
+    let ports = Vec::from_slice(alloc, &[PortRow::none(), asks])?;
+    let row = WaveRow::new(ports, Vec::from_slice(alloc, &[None, Some(1)])?);
+    assert_eq!(rt; row.port(1), asks);
+    assert_eq!(rt; (row.holder(0), row.holder(1)), (None, Some(1)));
     Ok(())
 }
