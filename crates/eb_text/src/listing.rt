@@ -11,8 +11,8 @@ use eb_io::{Line, Sink, WriteFault, put_all};
 use sdb_record::Record;
 use sdb_walk::{Found, Tree};
 
-// What stands behind a path, at most 112 octets: a space, the 12 of the longest kind, a range of 35 and a product of 63
-// with a space before it, and the line's end.
+// What stands behind a path, at most 112 octets: a space, the 12 of the longest kind, a range of 33 between two spaces,
+// a product of 63, and the line's end.
 type Text = Line<112>;
 
 // Adds a number in 8 hexadecimal digits.
