@@ -4,3 +4,5 @@ pub mod ItemLemmas
 pub mod LineLemmas
 pub mod TableLemmas
 pub mod RecordLemmas
+pub mod NameLemmas
+pub mod PathLemmas

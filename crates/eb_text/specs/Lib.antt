@@ -2,3 +2,4 @@ pub mod Texts
 pub mod Command
 pub mod Lines
 pub mod Build
+pub mod Listing
