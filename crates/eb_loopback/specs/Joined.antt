@@ -1,14 +1,17 @@
 -- A session that is joined to a host in memory, from its beginning on.
-use Rattle.std.specs.Prelude.{◌≡◌, ℕ, min, List, [], ◌++◌, length, take, drop, Some, None, MatchOption}
+use Rattle.std.specs.Prelude.{◌≡◌, ◌⊎◌, ℕ, min, List, [], ◌++◌, length, take, drop, Some, None, Ok, Err, MatchOption}
 use Rattle.eb_io.specs.Reading.{Reading}
 use Rattle.eb_io.specs.declared.source.Got.{Got}
 use Rattle.eb_io.specs.declared.source.Got.TheVariants as got
 use Rattle.eb_io.specs.Writing.{Writing, Octets}
+use Rattle.eb_io.specs.declared.sink.Put.{Put}
+use Rattle.eb_io.specs.declared.sink.Put.TheVariants as put
 use Rattle.eb_codec.specs.Stream.{StreamItem}
 use Rattle.wb_signals.specs.Cycles.{MasterCycles, Identity}
 use Rattle.wb_signals.specs.History.{Entry}
 use Rattle.eb_session.specs.declared.session.End.{End}
-use Rattle.eb_session.specs.Keeping.{SessionState}
+use Rattle.eb_session.specs.declared.session.Fed.{Fed}
+use Rattle.eb_session.specs.Keeping.{SessionState, FeedsSession}
 use Rattle.eb_session.specs.Course.{SoFar, IsOn, HasEnded}
 
 -- A loopback link: its session, its master as it is and as it was when the link was made, the octets that were written to the
@@ -68,3 +71,19 @@ abbrev pub GivesReplies : {M : Type 0} → LoopbackState M → LoopbackState M �
 GivesReplies old new room (got.Some n) = (n ≡ min (length room) (length old.unread)) × (take n room ≡ take n old.unread) × (new ≡ after_read old n)
 GivesReplies old new room got.End = (old.unread ≡ []) × (new ≡ old)
 GivesReplies old new room got.Failed = ⊥
+
+-- A write that took so many octets of the piece: they were fed to the session, whose master has the number m, and its reply is
+-- unread.
+abbrev pub TakesPiece : {M : Type 0} → (M → MasterCycles) → ℕ → LoopbackState M → LoopbackState M → List ℕ → ℕ → Type 0
+TakesPiece cycles m old new piece n = (fed : Fed) × (n ≡ fed.taken) × FeedsSession m old.session piece new.session (cycles old.master) (cycles new.master) (Ok fed)
+    × (new ≡ record old { session = new.session; master = new.master; written = old.written ++ take n piece; unread = old.unread ++ new.session.reply })
+
+-- A write that failed: nothing was fed to the session, or it ended in the piece or has ended before.
+abbrev pub FailsPiece : {M : Type 0} → (M → MasterCycles) → ℕ → LoopbackState M → LoopbackState M → List ℕ → Type 0
+FailsPiece cycles m old new piece = (new ≡ record old { faults = new.faults })
+    ⊎ ((e : End) × FeedsSession m old.session piece new.session (cycles old.master) (cycles new.master) (Err e) × (new ≡ record old { session = new.session; master = new.master; faults = new.faults }))
+
+-- What a write of this piece did, by its answer.
+abbrev pub FeedsPiece : {M : Type 0} → (M → MasterCycles) → ℕ → LoopbackState M → LoopbackState M → List ℕ → Put → Type 0
+FeedsPiece cycles m old new piece (put.Some n) = TakesPiece cycles m old new piece n
+FeedsPiece cycles m old new piece put.Failed = FailsPiece cycles m old new piece

@@ -4,7 +4,7 @@ ghost use Rattle.std.specs.Prelude.{None, Some, ◌≡◌, ◌<◌, ◌≤◌, �
 ghost use Rattle.eb_io.specs.Reading.{Reads};
 ghost use Rattle.eb_io.specs.Writing.{Octets, Took, Writes};
 ghost use Rattle.eb_session.specs.Keeping.{new_session};
-ghost use Rattle.eb_loopback.specs.Joined.{GivesReplies, IsJoined, new_loopback, reading_of, writing_of};
+ghost use Rattle.eb_loopback.specs.Joined.{FailsPiece, FeedsPiece, GivesReplies, IsJoined, TakesPiece, new_loopback, reading_of, writing_of};
 
 use eb_codec::encoding::put;
 use eb_io::{Got, Link, Put, Sink, Source};
@@ -114,6 +114,9 @@ impl<M: Master> Loopback<M> {
         ensures fed { MatchOption result (writing_of self.new ≡ writing_of self.old) (λ n. (0 < n)
             × (n ≤ length piece.now) × Took (writing_of self.old) (writing_of self.new) (take n piece.now)) }
         ensures reading { reading_of self.new ≡ reading_of self.old }
+        ensures feeds { MatchOption result
+            (FailsPiece M.cycles (M.identity self.old.master).number self.old self.new piece.now)
+            (TakesPiece M.cycles (M.identity self.old.master).number self.old self.new piece.now) }
     {
         let most = self.taken.checked_add(piece.len() as u64)?;
         if self.replies.reserve(MOST_REPLY).is_err() {
@@ -191,6 +194,7 @@ impl<M: Master> Sink for Loopback<M> {
         requires some_piece { 0 < length piece.now }
         ensures writes { Writes (writing_of self.old) (writing_of self.new) piece.now result }
         ensures reading { reading_of self.new ≡ reading_of self.old }
+        ensures feeds { FeedsPiece M.cycles (M.identity self.old.master).number self.old self.new piece.now result }
     {
         match self.feed(piece) {
             Some(count) => Put::Some(count),
