@@ -17,6 +17,8 @@ mod hosts;
 #[cfg(test)]
 mod journal;
 #[cfg(test)]
+mod loopbacks;
+#[cfg(test)]
 mod machine;
 #[cfg(test)]
 mod no_room;
