@@ -10,7 +10,7 @@ use Rattle.eb_session.specs.declared.session.End.{End}
 use Rattle.eb_session.specs.Keeping.{SessionState, FeedsSession, Answers, Stays, new_session}
 use Rattle.eb_session.specs.Course.{SoFar, IsOn, HasEnded}
 use Rattle.eb_session.proofs.EndLemmas.{begins, fed_goes, fed_ends}
-use Rattle.eb_loopback.specs.Joined.{LoopbackState, after_read, new_loopback, so_far, Runs, EndedIn, Serves, IsJoined}
+use Rattle.eb_loopback.specs.Joined.{LoopbackState, after_read, new_loopback, so_far, IsServing, EndedIn, Serves, IsJoined}
 
 module _ {M K : Type 0} (identity : M → Identity K) (cycles : M → MasterCycles) where
   -- ---- a new link
@@ -34,7 +34,7 @@ module _ {M K : Type 0} (identity : M → Identity K) (cycles : M → MasterCycl
   -- where it has ended no cycle is open
   pub closed_end : (link : LoopbackState M) → IsJoined identity cycles link → IfSome link.session.ending (λ e. (cycles link.master).opened ≡ [])
   closed_end link is = by link.session.ending is.serves where
-    by : (o : Option End) → MatchOption o (Runs cycles (identity link.first).number link) (EndedIn cycles (identity link.first).number link) → IfSome o (λ e. (cycles link.master).opened ≡ [])
+    by : (o : Option End) → MatchOption o (IsServing cycles (identity link.first).number link) (EndedIn cycles (identity link.first).number link) → IfSome o (λ e. (cycles link.master).opened ≡ [])
     by None h = tt
     by (Some e) h = h.3.none_open
 
@@ -54,8 +54,8 @@ module _ {M K : Type 0} (identity : M → Identity K) (cycles : M → MasterCycl
     by None h = refl
     by (Some e) h = let same = h.0 in absurd (cc)
 
-  runs_now : (m : ℕ) (link : LoopbackState M) → link.session.ending ≡ None → Serves cycles m link → Runs cycles m link
-  runs_now m link is h = subst (λ (o : Option End). MatchOption o (Runs cycles m link) (EndedIn cycles m link)) is h
+  runs_now : (m : ℕ) (link : LoopbackState M) → link.session.ending ≡ None → Serves cycles m link → IsServing cycles m link
+  runs_now m link is h = subst (λ (o : Option End). MatchOption o (IsServing cycles m link) (EndedIn cycles m link)) is h
 
   serves_fed : (m : ℕ) (link : LoopbackState M) (session : SessionState) (master : M) (piece : List ℕ) (fed : Fed) → Serves cycles m link
       → FeedsSession m link.session piece session (cycles link.master) (cycles master) (Ok fed) → session.ending ≡ None
@@ -67,7 +67,7 @@ module _ {M K : Type 0} (identity : M → Identity K) (cycles : M → MasterCycl
       let replied : (link.read ++ link.unread) ++ session.reply ≡ link.read ++ (link.unread ++ session.reply) = append_assoc link.read link.unread session.reply in
       let so : SoFar = so_far cycles new new.written next.0 next.1 in
       let course : IsOn m so session (cycles master) = subst (λ (l : List ℕ). IsOn m (record so { replied = l }) session (cycles master)) replied next.2 in
-      subst (λ (o : Option End). MatchOption o (Runs cycles m new) (EndedIn cycles m new)) (sym running) (next.0, next.1, course)
+      subst (λ (o : Option End). MatchOption o (IsServing cycles m new) (EndedIn cycles m new)) (sym running) (next.0, next.1, course)
 
   pub joined_fed : (link : LoopbackState M) (session : SessionState) (master : M) (piece : List ℕ) (fed : Fed) → IsJoined identity cycles link
       → FeedsSession (identity link.master).number link.session piece session (cycles link.master) (cycles master) (Ok fed) → session.ending ≡ None
@@ -102,14 +102,14 @@ module _ {M K : Type 0} (identity : M → Identity K) (cycles : M → MasterCycl
     new : LoopbackState M
     new = ended_link link session master
 
-    by : (o : Option End) → MatchOption o (Runs cycles m link) (EndedIn cycles m link)
+    by : (o : Option End) → MatchOption o (IsServing cycles m link) (EndedIn cycles m link)
         → MatchOption o (Answers m link.session piece session (cycles link.master) (cycles master) (Err e)) (λ x. (answer_err e ≡ Err x) × Stays link.session session (cycles link.master) (cycles master))
         → link.session.ending ≡ o
         → Serves cycles m new
     by None on ends was =
         let y = fed_ends m (so_far cycles link link.written on.0 on.1) link.session session piece (cycles link.master) (cycles master) e on.2 f in
         let here : HasEnded m session.slave (so_far cycles new (link.written ++ piece) on.0 y.0) (cycles master) session.errors e = subst (λ (s : Slave). HasEnded m s (so_far cycles new (link.written ++ piece) on.0 y.0) (cycles master) session.errors e) (sym slave) y.1 in
-        subst (λ (o : Option End). MatchOption o (Runs cycles m new) (EndedIn cycles m new)) (sym ends.1.ending) (piece, on.0, y.0, here)
+        subst (λ (o : Option End). MatchOption o (IsServing cycles m new) (EndedIn cycles m new)) (sym ends.1.ending) (piece, on.0, y.0, here)
     by (Some x) on stays was =
         let kept = stays.1.kept in
         let ending : session.ending ≡ Some x = ap (λ (s : SessionState). s.ending) kept ∙ was in
@@ -117,7 +117,7 @@ module _ {M K : Type 0} (identity : M → Identity K) (cycles : M → MasterCycl
         let one : HasEnded m session.slave so (cycles link.master) link.session.errors x = subst (λ (s : Slave). HasEnded m s so (cycles link.master) link.session.errors x) (sym slave) on.3 in
         let two : HasEnded m session.slave so (cycles master) link.session.errors x = subst (λ (k : MasterCycles). HasEnded m session.slave so k link.session.errors x) (sym stays.1.same) one in
         let three : HasEnded m session.slave so (cycles master) session.errors x = subst (λ (k : ℕ). HasEnded m session.slave so (cycles master) k x) (sym (ap (λ (s : SessionState). s.errors) kept)) two in
-        subst (λ (o : Option End). MatchOption o (Runs cycles m new) (EndedIn cycles m new)) (sym ending) (on.0, on.1, on.2, three)
+        subst (λ (o : Option End). MatchOption o (IsServing cycles m new) (EndedIn cycles m new)) (sym ending) (on.0, on.1, on.2, three)
 
   pub joined_ended : (link : LoopbackState M) (session : SessionState) (master : M) (piece unread : List ℕ) (e : End) → IsJoined identity cycles link
       → FeedsSession (identity link.master).number link.session piece session (cycles link.master) (cycles master) (Err e)

@@ -25,25 +25,29 @@ pub record LoopbackState (M : Type 0) : Type 0 where
   pub unread : List ℕ
   pub faults : ℕ
 
+-- One of these parts.
+abbrev pub loopback_of : {M : Type 0} → SessionState → M → M → List ℕ → List ℕ → List ℕ → ℕ → LoopbackState M
+loopback_of session master first written read unread faults = record { session = session; master = master; first = first; written = written; read = read; unread = unread; faults = faults }
+
 -- A new one.
 abbrev pub new_loopback : {M : Type 0} → SessionState → M → LoopbackState M
-new_loopback session master = record { session = session; master = master; first = master; written = []; read = []; unread = []; faults = 0 }
+new_loopback session master = loopback_of session master master [] [] [] 0
 
 -- What it tells of its reads. What it has left it doesn't tell, since a write makes more of it; no read fails.
-abbrev pub reading_of : {M : Type 0} → LoopbackState M → Reading
-reading_of link = record { given = Some link.read; left = None; faults = 0 }
+abbrev pub loopback_reading : {M : Type 0} → LoopbackState M → Reading
+loopback_reading link = record { given = Some link.read; left = None; faults = 0 }
 
 -- what it tells of its writes
-abbrev pub writing_of : {M : Type 0} → LoopbackState M → Writing
-writing_of link = record { written = Octets link.written; faults = link.faults }
+abbrev pub loopback_writing : {M : Type 0} → LoopbackState M → Writing
+loopback_writing link = record { written = Octets link.written; faults = link.faults }
 
 -- Its session since the link was made, of which these octets were taken: the replies were read or are unread.
 abbrev pub so_far : {M : Type 0} → (M → MasterCycles) → LoopbackState M → List ℕ → List StreamItem → List Entry → SoFar
 so_far cycles link octets items entries = record { first = cycles link.first; octets = octets; items = items; entries = entries; replied = link.read ++ link.unread }
 
 -- Its session, whose master has the number m, runs: what was written is what it took.
-abbrev pub Runs : {M : Type 0} → (M → MasterCycles) → ℕ → LoopbackState M → Type 0
-Runs cycles m link = (items : List StreamItem) × (entries : List Entry) × IsOn m (so_far cycles link link.written items entries) link.session (cycles link.master)
+abbrev pub IsServing : {M : Type 0} → (M → MasterCycles) → ℕ → LoopbackState M → Type 0
+IsServing cycles m link = (items : List StreamItem) × (entries : List Entry) × IsOn m (so_far cycles link link.written items entries) link.session (cycles link.master)
 
 -- It has ended so: a piece was fed to it behind what was written, and that write failed.
 abbrev pub EndedIn : {M : Type 0} → (M → MasterCycles) → ℕ → LoopbackState M → End → Type 0
@@ -52,7 +56,7 @@ EndedIn cycles m link e = (piece : List ℕ) × (items : List StreamItem) × (en
 
 -- It runs, or has ended.
 abbrev pub Serves : {M : Type 0} → (M → MasterCycles) → ℕ → LoopbackState M → Type 0
-Serves cycles m link = MatchOption link.session.ending (Runs cycles m link) (EndedIn cycles m link)
+Serves cycles m link = MatchOption link.session.ending (IsServing cycles m link) (EndedIn cycles m link)
 
 -- What holds of a loopback link after any calls: its master is the session's and is who it was at the beginning, and the
 -- session runs or has ended.

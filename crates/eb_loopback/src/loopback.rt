@@ -4,7 +4,7 @@ ghost use Rattle.std.specs.Prelude.{None, Some, ◌≡◌, ◌<◌, ◌≤◌, �
 ghost use Rattle.eb_io.specs.Reading.{Reads};
 ghost use Rattle.eb_io.specs.Writing.{Octets, Took, Writes};
 ghost use Rattle.eb_session.specs.Keeping.{new_session};
-ghost use Rattle.eb_loopback.specs.Joined.{FailsPiece, FeedsPiece, GivesReplies, IsJoined, TakesPiece, new_loopback, reading_of, writing_of};
+ghost use Rattle.eb_loopback.specs.Joined.{FailsPiece, FeedsPiece, GivesReplies, IsJoined, TakesPiece, new_loopback, loopback_reading, loopback_writing};
 
 use eb_codec::encoding::put;
 use eb_io::{Got, Link, Put, Sink, Source};
@@ -40,30 +40,16 @@ pub struct Loopback<M: Master> {
 impl<M: Master> Model for Loopback<M> {
     ghost use Rattle.std.specs.Prelude.{◌≤◌, length, drop};
     ghost use Rattle.eb_session.specs.Keeping.{octets_taken};
-    ghost use Rattle.eb_loopback.specs.Joined.{LoopbackState, IsJoined};
+    ghost use Rattle.eb_loopback.specs.Joined.{LoopbackState, IsJoined, loopback_of};
 
     ghost Value = { LoopbackState M };
 
-    ghost view = { λ l. record {
-      session = l.session;
-      master = l.master;
-      first = l.began.value;
-      written = l.written;
-      read = l.read;
-      unread = drop l.at l.replies.items;
-      faults = l.faults;
-    } };
+    ghost view = { λ l.
+        loopback_of l.session l.master l.began.value l.written l.read (drop l.at l.replies.items) l.faults };
 
     ghost invariant = { λ l. (l.at ≤ length l.replies.items) × (octets_taken l.session ≤ l.taken)
-        × IsJoined M.identity M.cycles (record {
-          session = l.session;
-          master = l.master;
-          first = l.began.value;
-          written = l.written;
-          read = l.read;
-          unread = drop l.at l.replies.items;
-          faults = l.faults;
-        }) };
+        × IsJoined M.identity M.cycles
+        (loopback_of l.session l.master l.began.value l.written l.read (drop l.at l.replies.items) l.faults) };
 }
 
 impl<M: Master> Loopback<M> {
@@ -92,8 +78,9 @@ impl<M: Master> Loopback<M> {
         }
     }
 
-    /// Its session. While that runs it is on its course: it took what was written, and what was read and the replies
-    /// that are unread are the replies to the items. Where it has ended, a write failed.
+    /// Its session. While that runs it is on its course: the octets that were written are those that it took, and its
+    /// replies are those that were read and those that are unread. Where it has ended, it ended in a write that failed.
+    /// The master's bus and number are those that it had when the link was made.
     pub fn session(&self) -> &Session
         ensures session { result.now ≡ self.now.session }
         ensures joined { IsJoined M.identity M.cycles self.now }
@@ -111,9 +98,10 @@ impl<M: Master> Loopback<M> {
     // Feeds the session once, and takes its reply. It answers how many octets were taken, or nothing where none were.
     fn feed(&mut self, piece: &[u8]) -> Option<usize>
         requires some_piece { 0 < length piece.now }
-        ensures fed { MatchOption result (writing_of self.new ≡ writing_of self.old) (λ n. (0 < n)
-            × (n ≤ length piece.now) × Took (writing_of self.old) (writing_of self.new) (take n piece.now)) }
-        ensures reading { reading_of self.new ≡ reading_of self.old }
+        ensures fed { MatchOption result (loopback_writing self.new ≡ loopback_writing self.old)
+            (λ n. (0 < n) × (n ≤ length piece.now)
+            × Took (loopback_writing self.old) (loopback_writing self.new) (take n piece.now)) }
+        ensures reading { loopback_reading self.new ≡ loopback_reading self.old }
         ensures feeds { MatchOption result
             (FailsPiece M.cycles (M.identity self.old.master).number self.old self.new piece.now)
             (TakesPiece M.cycles (M.identity self.old.master).number self.old self.new piece.now) }
@@ -160,15 +148,15 @@ fn forget_read(replies: &mut Vec<u8>, at: usize) -> usize
 }
 
 impl<M: Master> Source for Loopback<M> {
-    ghost reading = { reading_of };
+    ghost reading = { loopback_reading };
 
-    ghost beside_reads = { writing_of };
+    ghost beside_reads = { loopback_writing };
 
     /// Gives replies that are unread, in order. `End` comes exactly where there are none; a write may make more.
     fn read(&mut self, room: &mut [u8]) -> Got
         requires some_room { 0 < length room.old }
-        ensures reads { Reads (reading_of self.old) (reading_of self.new) room.new result }
-        ensures writing { writing_of self.new ≡ writing_of self.old }
+        ensures reads { Reads (loopback_reading self.old) (loopback_reading self.new) room.new result }
+        ensures writing { loopback_writing self.new ≡ loopback_writing self.old }
         ensures gives { GivesReplies self.old self.new room.new result }
     {
         let count = room.len().min(self.replies.len() - self.at);
@@ -184,16 +172,18 @@ impl<M: Master> Source for Loopback<M> {
 }
 
 impl<M: Master> Sink for Loopback<M> {
-    ghost writing = { writing_of };
+    ghost writing = { loopback_writing };
 
-    ghost beside_writes = { reading_of };
+    ghost beside_writes = { loopback_reading };
 
-    /// Feeds the session, which takes octets up to the end of one item. `Failed` comes where there is no memory for a
-    /// reply or for what the master keeps, or the session has ended.
+    /// Feeds the piece to the session, which takes octets up to the end of one item, and keeps its reply.
+    ///
+    /// `Failed` comes where there is no memory for a reply, or 2^64 octets would have been fed, and then nothing was
+    /// fed; or where the session ends in the piece or has ended, as for want of memory in the master.
     fn write(&mut self, piece: &[u8]) -> Put
         requires some_piece { 0 < length piece.now }
-        ensures writes { Writes (writing_of self.old) (writing_of self.new) piece.now result }
-        ensures reading { reading_of self.new ≡ reading_of self.old }
+        ensures writes { Writes (loopback_writing self.old) (loopback_writing self.new) piece.now result }
+        ensures reading { loopback_reading self.new ≡ loopback_reading self.old }
         ensures feeds { FeedsPiece M.cycles (M.identity self.old.master).number self.old self.new piece.now result }
     {
         match self.feed(piece) {
