@@ -1,5 +1,6 @@
 pub mod BitLemmas
 pub mod AskingLemmas
+pub mod JoinedLemmas
 pub mod OneReplyLemmas
 pub mod ClosingLemmas
 pub mod ReplyingLemmas

@@ -19,6 +19,8 @@ mod journal;
 #[cfg(test)]
 mod listings;
 #[cfg(test)]
+mod loopbacks;
+#[cfg(test)]
 mod machine;
 #[cfg(test)]
 mod no_room;

@@ -29,7 +29,7 @@ fn serve_failing(alloc: Global, fails: u64) -> Result<(Ending, MemLink), Fail> {
     let source = MemSource::new(Vec::from_slice(alloc, &CAPTURE)?, 7, Vec::new(alloc));
     let sink = MemSink::new(alloc, 64, 1, Vec::from_slice(alloc, &[fails])?)?;
     let mut link = MemLink::new(source, sink);
-    let machine = Machine::ram(alloc, 4096).ok().ok_or("machine")?;
+    let machine = Machine::ram(alloc, 4096, Width::W32).ok().ok_or("machine")?;
     let mut master = PlainMaster::new(alloc, Unkept::new(), machine, 0);
     let mut session = session_of(alloc)?;
     let mut rooms = Rooms::new(alloc, 64).ok().ok_or("rooms")?;
