@@ -1,9 +1,9 @@
 ghost use Rattle.std.specs.Prelude.{◌<◌, IfOk};
 ghost use Rattle.eb_io.specs.MemSource.{IsNew};
 
-use crate::samples::{CAPTURE, REPLY, SOC};
 use eb_io::{MemSink, MemSource, MemWorld};
 use eb_run::{Status, run_plain};
+use eb_samples::{CAPTURE, REPLY, SOC};
 use std::alloc::{AllocError, Global};
 use std::process::Abort;
 use std::test::Fail;

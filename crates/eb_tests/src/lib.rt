@@ -1,23 +1,18 @@
-//! Tests of the crates through their public calls: what no contract says (that there is an answer other than want of
-//! memory), and values from the standards and from examples that were worked out by hand.
+//! Tests of the stream, the session, the host and the commands through their public calls: what no contract says (that
+//! there is an answer other than want of memory), and values from examples that were worked out by hand.
 //!
-//! They stand in one crate, since a crate with tests is proved twice.
+//! Tests stand in crates of their own, since a crate with tests is proved twice: those of the clocked bus in
+//! `wb_tests`, those of descriptions and SDB records in `sdb_tests`.
 #![tactic(auto)]
 
-#[cfg(test)]
-mod clocked;
 #[cfg(test)]
 mod codec;
 #[cfg(test)]
 mod commands;
 #[cfg(test)]
-mod descriptions;
-#[cfg(test)]
 mod hosts;
 #[cfg(test)]
 mod journal;
-#[cfg(test)]
-mod listings;
 #[cfg(test)]
 mod loopbacks;
 #[cfg(test)]
@@ -29,16 +24,6 @@ mod numbers;
 #[cfg(test)]
 mod outside;
 #[cfg(test)]
-mod ports;
-#[cfg(test)]
-mod records;
-#[cfg(test)]
-mod samples;
-#[cfg(test)]
 mod streams;
 #[cfg(test)]
-mod tables;
-#[cfg(test)]
 mod texts;
-#[cfg(test)]
-mod walks;

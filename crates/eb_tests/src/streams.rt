@@ -3,9 +3,9 @@ ghost use Rattle.eb_base.specs.declared.width.Width.TheVariants.{W32};
 ghost use Rattle.eb_session.specs.Keeping.{new_session};
 
 use crate::no_room::NoRoom;
-use crate::samples::{CAPTURE, REPLY};
 use eb_base::Width;
 use eb_io::{MemLink, MemSink, MemSource};
+use eb_samples::{CAPTURE, REPLY};
 use eb_server::{Ending, Rooms, serve, serve_stream};
 use eb_session::{Session, Slave};
 use soc_machine::{Machine, PlainMaster};

@@ -14,7 +14,7 @@ use Rattle.soc_desc.specs.Geometry as geo
 use Rattle.soc_desc.specs.Geometry.{ItemPlace, BusPlace}
 use Rattle.soc_desc.specs.Accepted.{all_of, is_product, is_32_or_64, item_fields, item_fields_layer, bus_fields_layer, IsSoundBus, IsSoundBusOf}
 use Rattle.soc_desc.proofs.Wider.{sound_wider}
-use Rattle.eb_tests.proofs.tables.widened.Goals as goal
+use Rattle.sdb_tests.proofs.tables.widened.Goals as goal
 
 at_64 : (b : BusDescription) → IsSoundBus b → IsSoundBusOf is_32_or_64 (roll-BusDescription (record (out-BusDescription b) { width = W64 }))
 at_64 b sound =

@@ -1,5 +1,5 @@
-use crate::samples::{DEEP, SOC, TWO};
 use eb_base::Width;
+use eb_samples::{DEEP, SOC, TWO};
 use soc_desc::{DescFault, Path, read};
 use std::alloc::{AllocError, Global};
 use std::test::Fail;

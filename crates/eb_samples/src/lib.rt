@@ -1,4 +1,6 @@
-// Descriptions and records that several tests read.
+//! Descriptions, SDB records and captures that the tests of several crates read, with what they say worked out by hand.
+//! It has no function, and the program doesn't use it.
+#![tactic(auto)]
 
 // The example of docs/DESCRIPTION.md.
 pub const TWO: &str = r#"{"version":1,"data":32,"depth":4,"masters":2,"bus":{

@@ -1,7 +1,7 @@
 ghost use Rattle.soc_desc.specs.Accepted.{IsSoundBus, IsSoundBusOf, is_32_or_64};
 
-use crate::samples::{ROOT, SOC};
 use eb_base::Width;
+use eb_samples::{ROOT, SOC};
 use sdb_build::table;
 use soc_desc::{BusDescription, read};
 use std::test::Fail;

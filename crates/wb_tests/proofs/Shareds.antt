@@ -13,7 +13,7 @@ use Rattle.wb_crossbar.specs.Inside.{crossbar_of, IsCrossbar}
 use Rattle.wb_crossbar.specs.declared.crossbar.Crossbar.{Crossbar}
 use Rattle.wb_tree.specs.declared.node.Node.{Node}
 use Rattle.wb_tree.specs.Tree.{node_slave, IsSound}
-use Rattle.eb_tests.specs.Shared.{IsShared}
+use Rattle.wb_tests.specs.Shared.{IsShared}
 
 -- Port 0, the only one, holds slave 0, the only one.
 only : (holders : List (Option ℕ)) (m k : ℕ) → holders ≡ Some 0 ∷ [] → m < 1 → k < 1 → slice_get holders k ≡ Some (Some m)

@@ -13,7 +13,7 @@ use Rattle.wb_signals.proofs.NarrowLemmas.{narrow_fits}
 use Rattle.wb_tree.specs.declared.node.Node.{Node}
 use Rattle.wb_tree.specs.declared.part.Part.{Part as TreePart}
 use Rattle.wb_tree.specs.Tree.{node_slave, part_slave, IsSound}
-use Rattle.eb_tests.specs.Quiet.{IsQuietNode, first_part}
+use Rattle.wb_tests.specs.Quiet.{IsQuietNode, first_part}
 
 -- the only child of a bus
 pub one_fits : (width : Width) (p : TreePart) (items : List TreePart) (last : ℕ) (n : Node) → items ≡ p ∷ [] → part_slave p ≡ first_part last n → FitsIn width (first_part last n)

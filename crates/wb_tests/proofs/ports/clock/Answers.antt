@@ -5,8 +5,8 @@ use Rattle.wb_signals.specs.Request.{Request}
 use Rattle.wb_signals.specs.Cycles.{FitsBus}
 use Rattle.wb_crossbar.specs.Inside.{crossbar_of}
 use Rattle.wb_tree.specs.Tree.{node_slave}
-use Rattle.eb_tests.proofs.Shareds.{can_tick, still_shared}
-use Rattle.eb_tests.proofs.ports.clock.Goals as goal
+use Rattle.wb_tests.proofs.Shareds.{can_tick, still_shared}
+use Rattle.wb_tests.proofs.ports.clock.Goals as goal
 
 pub tick-requires-clause-can : goal.tick-requires-clause-can
 tick-requires-clause-can c =

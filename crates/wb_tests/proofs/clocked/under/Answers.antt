@@ -1,6 +1,6 @@
 -- A bus of one child.
-use Rattle.eb_tests.proofs.Quiets.{one_fits, bus_quiet}
-use Rattle.eb_tests.proofs.clocked.under.Goals as goal
+use Rattle.wb_tests.proofs.Quiets.{one_fits, bus_quiet}
+use Rattle.wb_tests.proofs.clocked.under.Goals as goal
 
 pub returns : goal.returns
 returns c =

@@ -1,7 +1,7 @@
 -- A bus of one child, behind a port of 64 data bits.
 use Rattle.eb_base.specs.declared.width.Width.TheVariants.{W32}
-use Rattle.eb_tests.proofs.Quiets.{one_fits, narrow_quiet}
-use Rattle.eb_tests.proofs.clocked.narrow.Goals as goal
+use Rattle.wb_tests.proofs.Quiets.{one_fits, narrow_quiet}
+use Rattle.wb_tests.proofs.clocked.narrow.Goals as goal
 
 pub returns : goal.returns
 returns c =

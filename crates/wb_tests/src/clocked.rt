@@ -4,7 +4,7 @@ ghost use Rattle.eb_base.specs.declared.width.Width.TheVariants.{W32, W64};
 ghost use Rattle.wb_signals.specs.Narrow.{IsOf32};
 ghost use Rattle.wb_device.specs.Limits.{IsBusWidth};
 ghost use Rattle.wb_tree.specs.Tree.{node_slave};
-ghost use Rattle.eb_tests.specs.Quiet.{IsQuietNode, IsRoomy};
+ghost use Rattle.wb_tests.specs.Quiet.{IsQuietNode, IsRoomy};
 
 use eb_base::{Mode, NoMemory, Reg, Width};
 use std::alloc::Global;

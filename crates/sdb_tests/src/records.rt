@@ -1,8 +1,8 @@
 ghost use Rattle.std.specs.Prelude.{◌≡◌};
 ghost use Rattle.sdb_record.specs.Relation.{IsValid};
 
-use crate::samples::{RAM, ROOT};
 use eb_base::{Name, Product};
+use eb_samples::{RAM, ROOT};
 use sdb_record::{Record, RecordFault, RecordWhy, decode, encode};
 use std::process::Abort;
 use std::test::Fail;

@@ -1,7 +1,7 @@
 ghost use Rattle.std.specs.Prelude.{◌≡◌, ◌%◌, ◌<◌, IfOk};
 ghost use Rattle.eb_base.specs.declared.width.Width.TheVariants.{W32};
 ghost use Rattle.wb_signals.specs.Cycles.{FitsBus};
-ghost use Rattle.eb_tests.specs.Shared.{IsShared};
+ghost use Rattle.wb_tests.specs.Shared.{IsShared};
 
 use crate::clocked::{Course, PORTS, leaf, rom};
 use eb_base::{NoMemory, Width};
