@@ -1,0 +1,4 @@
+pub mod SeatLemmas
+pub mod StepLemmas
+pub mod RoleLemmas
+pub mod CloseLemmas
