@@ -1,0 +1,6 @@
+pub mod Script
+pub mod ScriptWave
+pub mod Runner
+pub mod ScriptLaws
+pub mod ScriptOwn
+pub mod Work

@@ -1,0 +1,15 @@
+pub mod Rises
+pub mod Lists
+pub mod Owing
+pub mod PortRows
+pub mod PortTick
+pub mod Arbitrating
+pub mod Rowed
+pub mod Watching
+pub mod WatchedEvents
+pub mod Exchanged
+pub mod Entering
+pub mod Risen
+pub mod Watched
+pub mod Naming
+pub mod WaveByNumber
