@@ -1,0 +1,5 @@
+pub mod DigitLemmas
+pub mod PieceLemmas
+pub mod ListLemmas
+pub mod LineLemmas
+mod Examples
