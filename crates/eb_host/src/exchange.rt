@@ -4,11 +4,12 @@ ghost use Rattle.std.specs.Prelude.{◌≡◌, ◌≤◌, [], length, vec_capaci
 ghost use Rattle.eb_host.specs.Exchange.{Exchanges, duplex};
 
 use crate::hearing::{Heard, hear};
+use crate::link::{HostLink, send_all};
 use crate::op::HostFault;
-use eb_io::{Link, WriteFault, put_all};
+use eb_io::WriteFault;
 
 // Sends octets, and reads those that are expected in reply.
-pub fn exchange<L: Link>(
+pub fn exchange<L: HostLink>(
     link: &mut L,
     asks: &[u8],
     expected: &[Option<u8>],
@@ -19,8 +20,9 @@ pub fn exchange<L: Link>(
     requires room { length expected.now ≤ vec_capacity heard.old }
     ensures exchanges { Exchanges (duplex (L.reading link.old) (L.writing link.old))
         (duplex (L.reading link.new) (L.writing link.new)) asks.now expected.now read heard.new.items result }
+    ensures other_end { L.other_end link.new ≡ L.other_end link.old }
 {
-    match put_all(link, asks) {
+    match send_all(link, asks) {
         Ok(()) => {}
         Err(WriteFault) => return Err(HostFault::LinkWrite),
     }

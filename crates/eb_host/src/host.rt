@@ -14,13 +14,13 @@ ghost use Rattle.eb_host.specs.View.{link_of, sent_header, host_state};
 use crate::asks::{put_closing, put_cycle};
 use crate::exchange::exchange;
 use crate::expected::{expect_closing, expect_cycle};
+use crate::link::HostLink;
 use crate::op::{HostAnswer, HostFault, HostOp};
 use crate::opening::shake;
 use crate::replies::{closing_at, joined_at, put_answers};
 use eb_base::{NoMemory, Width, Widths};
 use eb_codec::Header;
 use eb_codec::sizes::unit_len;
-use eb_io::Link;
 use std::alloc::Global;
 
 /// The host at one end of a link, which a slave of Etherbone 1.0 serves at the other.
@@ -60,7 +60,7 @@ fn too_wide(header: Header, ops: &[HostOp]) -> Option<u64>
     None
 }
 
-impl<L: Link> Host<L> {
+impl<L: HostLink> Host<L> {
     /// Opens a link: it asks the slave for its widths by a probe with these sets of width bits, chooses the greatest
     /// width of addresses and the greatest width of the port that both have, sends the header, and reads its answer.
     ///
@@ -77,6 +77,8 @@ impl<L: Link> Host<L> {
             (duplex (L.reading e.0) (L.writing e.0)) e.1) }
         ensures only_port { IfOk result (λ host. (w : Width) → widths.ports ≡ bit w →
             (sent_header host).port ≡ w) }
+        ensures other_end { MatchResult result (λ host. L.other_end (link_of host) ≡ L.other_end link)
+            (λ e. L.other_end e.0 ≡ L.other_end link) }
     {
         let mut first = match Vec::with_capacity(alloc, 8) {
             Ok(first) => first,
@@ -135,6 +137,7 @@ impl<L: Link> Host<L> {
         ensures sends { Sends asks.now expected.now (host_state L.reading L.writing self.old)
             (host_state L.reading L.writing self.new) heard.new.items result }
         ensures header { sent_header self.new ≡ sent_header self.old }
+        ensures other_end { L.other_end (link_of self.new) ≡ L.other_end (link_of self.old) }
     {
         match exchange(&mut self.link, asks, expected, heard, self.read) {
             Ok(()) => {
@@ -157,6 +160,7 @@ impl<L: Link> Host<L> {
         ensures count { IfOk result (λ answers. length answers.items ≡ length ops.now) }
         ensures words { IfOk result (λ answers. All (FitsPort (sent_header self.old)) answers.items) }
         ensures header { sent_header self.new ≡ sent_header self.old }
+        ensures other_end { L.other_end (link_of self.new) ≡ L.other_end (link_of self.old) }
     {
         let header = self.header();
         let mut asks = Vec::new(alloc);
@@ -200,6 +204,7 @@ impl<L: Link> Host<L> {
         ensures count { IfOk result (λ answers. length answers.items ≡ length ops.now) }
         ensures words { IfOk result (λ answers. All (FitsPort (sent_header self.old)) answers.items) }
         ensures header { sent_header self.new ≡ sent_header self.old }
+        ensures other_end { L.other_end (link_of self.new) ≡ L.other_end (link_of self.old) }
     {
         if let Some(fault) = self.fault {
             return Err(fault);
@@ -217,6 +222,7 @@ impl<L: Link> Host<L> {
             (op ∷ []) (alone result) }
         ensures word { IfOk result (FitsPort (sent_header self.old)) }
         ensures header { sent_header self.new ≡ sent_header self.old }
+        ensures other_end { L.other_end (link_of self.new) ≡ L.other_end (link_of self.old) }
     {
         match self.cycle(alloc, &[op]) {
             Ok(answers) => Ok(answers[0]),
@@ -230,6 +236,7 @@ impl<L: Link> Host<L> {
             (record { write = false; adr = adr; dat = 0 } ∷ []) (alone result) }
         ensures word { IfOk result (FitsPort (sent_header self.old)) }
         ensures header { sent_header self.new ≡ sent_header self.old }
+        ensures other_end { L.other_end (link_of self.new) ≡ L.other_end (link_of self.old) }
     {
         self.one(
             alloc,
@@ -248,6 +255,7 @@ impl<L: Link> Host<L> {
             (record { write = true; adr = adr; dat = dat } ∷ []) (alone result) }
         ensures word { IfOk result (FitsPort (sent_header self.old)) }
         ensures header { sent_header self.new ≡ sent_header self.old }
+        ensures other_end { L.other_end (link_of self.new) ≡ L.other_end (link_of self.old) }
     {
         self.one(
             alloc,
@@ -265,6 +273,7 @@ impl<L: Link> Host<L> {
         ensures root { ReadsRoot (host_state L.reading L.writing self.old) (host_state L.reading L.writing self.new)
             result }
         ensures header { sent_header self.new ≡ sent_header self.old }
+        ensures other_end { L.other_end (link_of self.new) ≡ L.other_end (link_of self.old) }
     {
         if let Some(fault) = self.fault {
             return Err(fault);
@@ -277,6 +286,7 @@ impl<L: Link> Host<L> {
         ensures calls { Calls (closing (sent_header self.old) 8 ∷ []) (root_in (sent_header self.old))
             (host_state L.reading L.writing self.old) (host_state L.reading L.writing self.new) result }
         ensures header { sent_header self.new ≡ sent_header self.old }
+        ensures other_end { L.other_end (link_of self.new) ≡ L.other_end (link_of self.old) }
     {
         let header = self.header();
         let mut asks = Vec::new(alloc);

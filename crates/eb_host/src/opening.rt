@@ -7,12 +7,12 @@ ghost use Rattle.eb_host.specs.Host.{header as header_with};
 ghost use Rattle.eb_host.specs.Opening.{sets_in, greatest as greatest_in, common as common_of, Probes, Heads, Shaken, Fails};
 
 use crate::exchange::exchange;
+use crate::link::HostLink;
 use crate::op::HostFault;
 use eb_base::{Width, Widths};
 use eb_codec::Header;
 use eb_codec::flags::{MAGIC, NR, PF, PR, VERSION};
 use eb_codec::sizes::unit_len;
-use eb_io::Link;
 
 // The id of the probe.
 const PROBE_ID: u8 = 1;
@@ -53,7 +53,11 @@ fn sets(heard: &[u8]) -> Widths
 
 // Asks for the slave's widths.
 #[tactic(auto, unfolding(eb_base::specs::Field::octets_of))]
-fn probe<L: Link>(link: &mut L, widths: Widths, heard: &mut Vec<u8>) -> Result<Widths, HostFault>
+fn probe<L: HostLink>(
+    link: &mut L,
+    widths: Widths,
+    heard: &mut Vec<u8>,
+) -> Result<Widths, HostFault>
     requires sets { AreSets widths }
     requires empty { heard.old.items ≡ [] }
     requires room { 8 ≤ vec_capacity heard.old }
@@ -62,6 +66,7 @@ fn probe<L: Link>(link: &mut L, widths: Widths, heard: &mut Vec<u8>) -> Result<W
         (duplex (L.reading link.new) (L.writing link.new)) heard.new.items (Ok tt) × (w ≡ sets_in heard.new.items))
         (λ f. Probes widths (duplex (L.reading link.old) (L.writing link.old))
         (duplex (L.reading link.new) (L.writing link.new)) heard.new.items (Err f)) }
+    ensures other_end { L.other_end link.new ≡ L.other_end link.old }
 {
     let asks = [
         MAGIC[0],
@@ -90,12 +95,13 @@ fn probe<L: Link>(link: &mut L, widths: Widths, heard: &mut Vec<u8>) -> Result<W
 }
 
 // Sends the header, and reads its answer.
-fn head<L: Link>(link: &mut L, header: Header, heard: &mut Vec<u8>) -> Result<(), HostFault>
+fn head<L: HostLink>(link: &mut L, header: Header, heard: &mut Vec<u8>) -> Result<(), HostFault>
     requires replied { header.no_reply ≡ false }
     requires empty { heard.old.items ≡ [] }
     requires room { 8 ≤ vec_capacity heard.old }
     ensures heads { Heads header (duplex (L.reading link.old) (L.writing link.old))
         (duplex (L.reading link.new) (L.writing link.new)) heard.new.items result }
+    ensures other_end { L.other_end link.new ≡ L.other_end link.old }
 {
     let (a, b) = (MAGIC[0], MAGIC[1]);
     let answer = VERSION + NR;
@@ -120,7 +126,7 @@ fn head<L: Link>(link: &mut L, header: Header, heard: &mut Vec<u8>) -> Result<()
 }
 
 // Opens a link: the header with the widths that were chosen.
-pub fn shake<L: Link>(
+pub fn shake<L: HostLink>(
     link: &mut L,
     widths: Widths,
     first: &mut Vec<u8>,
@@ -136,6 +142,7 @@ pub fn shake<L: Link>(
         (duplex (L.reading link.new) (L.writing link.new)) h)
         (λ f. Fails widths (duplex (L.reading link.old) (L.writing link.old))
         (duplex (L.reading link.new) (L.writing link.new)) f) }
+    ensures other_end { L.other_end link.new ≡ L.other_end link.old }
 {
     let theirs = match probe(link, widths, first) {
         Ok(theirs) => theirs,

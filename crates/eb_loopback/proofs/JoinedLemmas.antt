@@ -132,6 +132,10 @@ module _ {M K : Type 0} (identity : M → Identity K) (cycles : M → MasterCycl
             (subst (λ (n : ℕ). FeedsSession n link.session piece session (cycles link.master) (cycles master) (Err e)) (ap (λ (q : Identity K). q.number) is.same) f) slave;
       })
 
+  -- how many writes failed says nothing of it
+  pub joined_counted : (link : LoopbackState M) (faults : ℕ) → IsJoined identity cycles link → IsJoined identity cycles (record link { faults = faults })
+  joined_counted link faults is = record { bus = is.bus; same = is.same; serves = is.serves }
+
   -- ---- a read
 
   -- the same, of all replies joined

@@ -9,6 +9,7 @@ use Rattle.eb_io.specs.declared.sink.Put.TheVariants as put
 use Rattle.eb_codec.specs.Stream.{StreamItem}
 use Rattle.wb_signals.specs.Cycles.{MasterCycles, Identity}
 use Rattle.wb_signals.specs.History.{Entry}
+use Rattle.eb_session.specs.declared.slave.Slave.{Slave}
 use Rattle.eb_session.specs.declared.session.End.{End}
 use Rattle.eb_session.specs.declared.session.Fed.{Fed}
 use Rattle.eb_session.specs.Keeping.{SessionState, FeedsSession}
@@ -28,6 +29,14 @@ pub record LoopbackState (M : Type 0) : Type 0 where
 -- One of these parts.
 abbrev pub loopback_of : {M : Type 0} → SessionState → M → M → List ℕ → List ℕ → List ℕ → ℕ → LoopbackState M
 loopback_of session master first written read unread faults = record { session = session; master = master; first = first; written = written; read = read; unread = unread; faults = faults }
+
+-- Who serves at the other end of it, which no call changes: the slave, and its master as it was when the link was made.
+pub record Serving (M : Type 0) : Type 0 where
+  pub slave : Slave
+  pub first : M
+
+abbrev pub serving_of : {M : Type 0} → LoopbackState M → Serving M
+serving_of link = record { slave = link.session.slave; first = link.first }
 
 -- A new one.
 abbrev pub new_loopback : {M : Type 0} → SessionState → M → LoopbackState M
@@ -64,6 +73,10 @@ pub record IsJoined {M K : Type 0} (identity : M → Identity K) (cycles : M →
   pub bus : (identity link.master).bus ≡ link.session.slave.bus
   pub same : identity link.master ≡ identity link.first
   pub serves : Serves cycles (identity link.first).number link
+
+-- Its session runs where no write failed.
+abbrev pub RunsUnlessFailed : {M : Type 0} → LoopbackState M → Type 0
+RunsUnlessFailed link = link.faults ≡ 0 → link.session.ending ≡ None
 
 -- A read that gave so many replies.
 abbrev pub after_read : {M : Type 0} → LoopbackState M → ℕ → LoopbackState M

@@ -2,11 +2,12 @@
 
 ghost use Rattle.std.specs.Prelude.{None, Some, ◌≡◌, ◌<◌, ◌≤◌, ◌++◌, [], drop, take, length, MatchOption};
 ghost use Rattle.eb_io.specs.Reading.{Reads};
-ghost use Rattle.eb_io.specs.Writing.{Octets, Took, Writes};
+ghost use Rattle.eb_io.specs.Writing.{Octets, Took, WriteFailed, Writes};
 ghost use Rattle.eb_session.specs.Keeping.{new_session};
-ghost use Rattle.eb_loopback.specs.Joined.{FailsPiece, FeedsPiece, GivesReplies, IsJoined, TakesPiece, new_loopback, loopback_reading, loopback_writing};
+ghost use Rattle.eb_loopback.specs.Joined.{FailsPiece, FeedsPiece, GivesReplies, IsJoined, RunsUnlessFailed, TakesPiece, new_loopback, loopback_reading, loopback_writing, serving_of};
 
 use eb_codec::encoding::put;
+use eb_host::HostLink;
 use eb_io::{Got, Link, Put, Sink, Source};
 use eb_session::Session;
 use soc_trail::Trail;
@@ -40,7 +41,7 @@ pub struct Loopback<M: Master> {
 impl<M: Master> Model for Loopback<M> {
     ghost use Rattle.std.specs.Prelude.{◌≤◌, length, drop};
     ghost use Rattle.eb_session.specs.Keeping.{octets_taken};
-    ghost use Rattle.eb_loopback.specs.Joined.{LoopbackState, IsJoined, loopback_of};
+    ghost use Rattle.eb_loopback.specs.Joined.{LoopbackState, IsJoined, RunsUnlessFailed, loopback_of};
 
     ghost Value = { LoopbackState M };
 
@@ -49,6 +50,8 @@ impl<M: Master> Model for Loopback<M> {
 
     ghost invariant = { λ l. (l.at ≤ length l.replies.items) × (octets_taken l.session ≤ l.taken)
         × IsJoined M.identity M.cycles
+        (loopback_of l.session l.master l.began.value l.written l.read (drop l.at l.replies.items) l.faults)
+        × RunsUnlessFailed
         (loopback_of l.session l.master l.began.value l.written l.read (drop l.at l.replies.items) l.faults) };
 }
 
@@ -79,11 +82,12 @@ impl<M: Master> Loopback<M> {
     }
 
     /// Its session. While that runs it is on its course: the octets that were written are those that it took, and its
-    /// replies are those that were read and those that are unread. Where it has ended, it ended in a write that failed.
-    /// The master's bus and number are those that it had when the link was made.
+    /// replies are those that were read and those that are unread. Where it has ended, it ended in a write that failed,
+    /// and where no write failed it runs. The master's bus and number are those that it had when the link was made.
     pub fn session(&self) -> &Session
         ensures session { result.now ≡ self.now.session }
         ensures joined { IsJoined M.identity M.cycles self.now }
+        ensures runs { RunsUnlessFailed self.now }
     {
         &self.session
     }
@@ -95,23 +99,28 @@ impl<M: Master> Loopback<M> {
         &self.master
     }
 
-    // Feeds the session once, and takes its reply. It answers how many octets were taken, or nothing where none were.
+    // Feeds the session once, and takes its reply. It answers how many octets were taken, or nothing where none were,
+    // which counts as a write that failed.
     fn feed(&mut self, piece: &[u8]) -> Option<usize>
         requires some_piece { 0 < length piece.now }
-        ensures fed { MatchOption result (loopback_writing self.new ≡ loopback_writing self.old)
+        ensures fed { MatchOption result (WriteFailed (loopback_writing self.old) (loopback_writing self.new))
             (λ n. (0 < n) × (n ≤ length piece.now)
             × Took (loopback_writing self.old) (loopback_writing self.new) (take n piece.now)) }
         ensures reading { loopback_reading self.new ≡ loopback_reading self.old }
         ensures feeds { MatchOption result
             (FailsPiece M.cycles (M.identity self.old.master).number self.old self.new piece.now)
             (TakesPiece M.cycles (M.identity self.old.master).number self.old self.new piece.now) }
+        ensures serving { serving_of self.new ≡ serving_of self.old }
     {
+        let before = self.faults;
+        self.faults = before.saturating_add(1);
         let most = self.taken.checked_add(piece.len() as u64)?;
         if self.replies.reserve(MOST_REPLY).is_err() {
             return None;
         }
         match self.session.feed(self.alloc, &mut self.master, piece) {
             Ok(fed) => {
+                self.faults = before;
                 self.taken += fed.taken as u64;
                 put(&mut self.replies, self.session.reply());
                 push_all(&mut self.written, &piece[..fed.taken]);
@@ -158,6 +167,7 @@ impl<M: Master> Source for Loopback<M> {
         ensures reads { Reads (loopback_reading self.old) (loopback_reading self.new) room.new result }
         ensures writing { loopback_writing self.new ≡ loopback_writing self.old }
         ensures gives { GivesReplies self.old self.new room.new result }
+        ensures serving { serving_of self.new ≡ serving_of self.old }
     {
         let count = room.len().min(self.replies.len() - self.at);
         if count == 0 {
@@ -185,13 +195,11 @@ impl<M: Master> Sink for Loopback<M> {
         ensures writes { Writes (loopback_writing self.old) (loopback_writing self.new) piece.now result }
         ensures reading { loopback_reading self.new ≡ loopback_reading self.old }
         ensures feeds { FeedsPiece M.cycles (M.identity self.old.master).number self.old self.new piece.now result }
+        ensures serving { serving_of self.new ≡ serving_of self.old }
     {
         match self.feed(piece) {
             Some(count) => Put::Some(count),
-            None => {
-                self.faults = self.faults.saturating_add(1);
-                Put::Failed
-            }
+            None => Put::Failed,
         }
     }
 }
@@ -202,4 +210,21 @@ impl<M: Master> Link for Loopback<M> {
     ghost tells_writes = { λ _. refl };
 
     ghost tells_reads = { λ _. refl };
+}
+
+/// At its other end is the slave, on the master as it was when the link was made.
+impl<M: Master> HostLink for Loopback<M> {
+    ghost use Rattle.eb_loopback.specs.Joined.{Serving, serving_of};
+
+    ghost OtherEnd = { Serving M };
+
+    ghost other_end = { serving_of };
+
+    fn receive(&mut self, room: &mut [u8]) -> Got {
+        self.read(room)
+    }
+
+    fn send(&mut self, piece: &[u8]) -> Put {
+        self.write(piece)
+    }
 }

@@ -1,79 +1,97 @@
 //! A reader of words over a host whose port has 32 bits.
 
-ghost use Rattle.std.specs.Prelude.{◌≡◌, ◌<◌, ◌^◌, []};
-ghost use Rattle.std.specs.declared.option.Option.TheVariants.{Some};
+ghost use Rattle.std.specs.Prelude.{◌≡◌, ◌<◌, ◌^◌};
 ghost use Rattle.eb_base.specs.declared.width.Width.TheVariants.{W32};
 ghost use Rattle.sdb_walk.specs.Told.{with_exchange};
-ghost use Rattle.eb_host.specs.View.{sent_header, host_state};
+ghost use Rattle.eb_host.specs.View.{link_of, sent_header, host_state};
+ghost use Rattle.eb_reader.specs.Reader.{HasReadWords, ReadsWord, began_with, new_reader, told_of};
 
-use eb_host::{Host, HostAnswer, HostFault};
-use eb_io::Link;
+use eb_host::{Host, HostAnswer, HostFault, HostLink};
 use sdb_walk::{Exchange, NoWord, WordReader};
 use soc_trail::Trail;
 use std::alloc::Global;
+use std::marker::Model;
+use std::snapshot::Snapshot;
 
 /// Reads words through a host whose port has 32 bits, each as a cycle of its own. Clauses see all that was asked and
-/// answered; memory keeps none of it.
+/// answered, and the host with which the reader began; memory keeps none of it.
 #[derive(Drop)]
-pub struct HostReader<L> {
+pub struct HostReader<L: HostLink> {
     host: Host<L>,
     alloc: Global,
+    began: Snapshot<Host<L>>,
     asked: Trail<Exchange<HostFault>>,
-    ghost port: { (sent_header host).port ≡ W32 },
 }
 
-impl<L: Link> HostReader<L> {
-    ghost use Rattle.eb_reader.specs.Reader.{ReadsWord, host_of, told_of};
+impl<L: HostLink> Model for HostReader<L> {
+    ghost use Rattle.eb_reader.specs.Reader.{ReaderState, HasReadWords, reader_of};
 
+    ghost Value = { ReaderState L };
+
+    ghost view = { λ r. reader_of r.began.value r.host r.asked };
+
+    ghost invariant = { λ r. HasReadWords L.reading L.writing L.other_end (reader_of r.began.value r.host r.asked) };
+}
+
+impl<L: HostLink> HostReader<L> {
     /// A reader over this host, which was asked for nothing yet.
     pub fn new(alloc: Global, host: Host<L>) -> HostReader<L>
         requires port { (sent_header host).port ≡ W32 }
-        ensures told { told_of result ≡ Some [] }
-        ensures host { host_of result ≡ host }
+        ensures new { result ≡ new_reader host }
     {
+        let began = Snapshot::of(&host);
         HostReader {
             host,
             alloc,
+            began,
             asked: Trail::new(),
         }
     }
 
-    /// Gives the host back, as the last read left it.
+    /// Gives the host back, as the last read left it. It read what was asked, one word after another.
     pub fn into_host(self) -> Host<L>
-        ensures host { result ≡ host_of self }
-        ensures port { (sent_header result).port ≡ W32 }
+        ensures host { result ≡ self.host }
+        ensures read { HasReadWords L.reading L.writing L.other_end self }
     {
         self.host
     }
+}
 
-    // The answer to a read.
-    fn ask(&mut self, adr: u64) -> Result<u32, NoWord<HostFault>>
-        ensures reads { ReadsWord (host_state L.reading L.writing (host_of self.old))
-            (host_state L.reading L.writing (host_of self.new)) adr result }
-        ensures told { told_of self.new ≡ told_of self.old }
-    {
-        match self.host.read(self.alloc, adr) {
-            Ok(HostAnswer::Done(word)) => Ok(word as u32),
-            Ok(HostAnswer::Error) => Err(NoWord::BusError),
-            Err(fault) => Err(NoWord::Cause(fault)),
-        }
+// The answer to a read.
+fn ask<L: HostLink>(alloc: Global, host: &mut Host<L>, adr: u64) -> Result<u32, NoWord<HostFault>>
+    requires port { (sent_header host.old).port ≡ W32 }
+    ensures reads { ReadsWord (host_state L.reading L.writing host.old) (host_state L.reading L.writing host.new)
+        adr result }
+    ensures header { sent_header host.new ≡ sent_header host.old }
+    ensures other_end { L.other_end (link_of host.new) ≡ L.other_end (link_of host.old) }
+{
+    match host.read(alloc, adr) {
+        Ok(HostAnswer::Done(word)) => Ok(word as u32),
+        Ok(HostAnswer::Error) => Err(NoWord::BusError),
+        Err(fault) => Err(NoWord::Cause(fault)),
     }
 }
 
-impl<L: Link> WordReader for HostReader<L> {
+impl<L: HostLink> WordReader for HostReader<L> {
     type Cause = HostFault;
 
-    ghost use Rattle.eb_reader.specs.Reader.{ReadsWord, host_of, told_of};
+    ghost use Rattle.eb_host.specs.declared.host.Host.{Host};
+    ghost use Rattle.eb_reader.specs.Reader.{began_with, told_of};
 
     ghost told = { told_of };
+
+    ghost Origin = { Host L };
+
+    ghost origin = { began_with };
 
     /// The word that the host reads at the address, `BusError` for an error of the bus, or the host's fault.
     fn word(&mut self, adr: u64) -> Result<u32, NoWord<HostFault>>
         ensures told { told_of self.new ≡ with_exchange (told_of self.old) adr result }
-        ensures reads { ReadsWord (host_state L.reading L.writing (host_of self.old))
-            (host_state L.reading L.writing (host_of self.new)) adr result }
+        ensures origin { began_with self.new ≡ began_with self.old }
+        ensures reads { ReadsWord (host_state L.reading L.writing self.old.host)
+            (host_state L.reading L.writing self.new.host) adr result }
     {
-        let word = self.ask(adr);
+        let word = ask(self.alloc, &mut self.host, adr);
         self.asked.push(Exchange { adr, word });
         word
     }

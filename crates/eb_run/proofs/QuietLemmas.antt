@@ -25,7 +25,7 @@ use Rattle.soc_desc.specs.Described.{described, checked, json_or, most_octets}
 use Rattle.soc_desc.specs.declared.description.Description.{Description}
 use Rattle.soc_desc.specs.declared.fault.DescFault.{DescFault}
 use Rattle.soc_desc.specs.declared.fault.DescFault.TheVariants as desc
-use Rattle.eb_text.specs.Command.{Command, AnswerRam, Answer, Build, Load, Show}
+use Rattle.eb_text.specs.Command.{Command, AnswerRam, Answer, Build, Tour, Load, Show}
 use Rattle.eb_text.specs.declared.fault.Fault.{Fault}
 use Rattle.eb_text.specs.declared.fault.Fault.TheVariants as fault
 use Rattle.eb_run.specs.Run.{Run}
@@ -234,6 +234,19 @@ module _ {F : Type 0} (run : Run F) (held : List (List ℕ)) (quiet : IsQuiet ru
         | inr so ↦ inr (subst (λ (l : List (List ℕ)). Decides (Answer name capture) l r) (sym own.2) (d, text, so))
       ]
 
+  -- a text that is made of a description that was read
+  made_of : (c : Command) (name : List ℕ) (between : Outside F) (d : Description) (is_text : List ℕ → Type 0) (r : Result ⊤ Fault)
+      → ((text : List ℕ) → described text ≡ Ok d → r ≡ Ok tt → Decides c (text ∷ []) r)
+      → ReadsDescription run.reading run.world between name (Ok d) → run.world' ≡ between → MakesText run.out run.out' is_text r → Decided c held r
+  made_of c name between d is_text r decides reads same makes =
+      let read = read_well run.reading run.world between name d reads in
+      let own = one_held run.reading read.1.file held (are_quiet (read.1.file ∷ []) (ap (λ (w : Outside F). w.files) same ∙ read.1.read.files)).0 in
+      let text : described own.0 ≡ Ok d = same_described run.reading run.world between name read.0 own.0 read.1 own.2 ∙ read.2 in
+      elim (made_well is_text run.out run.out' r quiet.write_faults makes) [
+        | inl none ↦ inl none
+        | inr well ↦ inr (subst (λ (l : List (List ℕ)). Decides c l r) (sym own.1) (decides own.0 text well))
+      ]
+
   -- what a command came to is what the octets decide
   pub decided : (c : Command) (r : Result ⊤ Fault) → ComesTo run c r → Decided c held r
   decided (AnswerRam size capture) r (inl (inl (is, failed), same)) = absurd (quiet.open_faults failed.rose)
@@ -250,14 +263,9 @@ module _ {F : Type 0} (run : Run F) (held : List (List ℕ)) (quiet : IsQuiet ru
       let read = read_well run.reading run.world between name d reads in
       answered name capture between read.0 d r read.1 read.2 answers
   decided (Build name) r (inl (f, is, reads, same)) = ill (Build name) name r f (λ text refused. inr refused) is reads
-  decided (Build name) r (inr (d, between, reads, (same, makes))) =
-      let read = read_well run.reading run.world between name d reads in
-      let own = one_held run.reading read.1.file held (are_quiet (read.1.file ∷ []) (ap (λ (w : Outside F). w.files) same ∙ read.1.read.files)).0 in
-      let text : described own.0 ≡ Ok d = same_described run.reading run.world between name read.0 own.0 read.1 own.2 ∙ read.2 in
-      elim (made_well _ run.out run.out' r quiet.write_faults makes) [
-        | inl none ↦ inl none
-        | inr well ↦ inr (subst (λ (l : List (List ℕ)). Decides (Build name) l r) (sym own.1) (inl (d, text, well)))
-      ]
+  decided (Build name) r (inr (d, between, reads, (same, makes))) = made_of (Build name) name between d _ r (λ text found well. inl (d, found, well)) reads same makes
+  decided (Tour name) r (inl (f, is, reads, same)) = ill (Tour name) name r f (λ text refused. inr refused) is reads
+  decided (Tour name) r (inr (d, between, reads, (same, makes))) = made_of (Tour name) name between d _ r (λ text found well. inl (d, found, well)) reads same makes
   decided (Load start cycles) r (same, makes) =
       elim (made_well _ run.out run.out' r quiet.write_faults makes) [
         | inl none ↦ inl none
@@ -287,16 +295,22 @@ not_both text d a x y =
     let both : ◌≡◌ {A = Found Description} (Ok d) (Err y.0) = sym x ∙ y.1 in
     cc
 
+-- the text is a description of which something is made, or is refused
+one_making : (text : List ℕ) (a b : Result ⊤ Fault) → ((d : Description) × (described text ≡ Ok d) × (a ≡ Ok tt)) ⊎ IsRefused text a
+    → ((d : Description) × (described text ≡ Ok d) × (b ≡ Ok tt)) ⊎ IsRefused text b → a ≡ b
+one_making text a b (inl x) (inl y) = x.2 ∙ sym y.2
+one_making text a b (inl x) (inr y) = absurd (not_both text x.0 b x.1 y)
+one_making text a b (inr x) (inl y) = absurd (not_both text y.0 a y.1 x)
+one_making text a b (inr x) (inr y) = one_refusal text a b x y
+
 pub one_answer : (c : Command) (held : List (List ℕ)) (a b : Result ⊤ Fault) → Decides c held a → Decides c held b → a ≡ b
 one_answer (AnswerRam size capture) (o ∷ []) a b x y = one_end W32 o a b x y
 one_answer (Answer name capture) (text ∷ []) a b x y = one_refusal text a b x y
 one_answer (Answer name capture) (text ∷ o ∷ []) a b x y =
     let same = one_description text y.0 x.0 y.1 x.1 in
     one_end x.0.bus.width o a b x.2 (subst (λ (d : Description). EndsWith d.bus.width o b) same y.2)
-one_answer (Build name) (text ∷ []) a b (inl x) (inl y) = x.2 ∙ sym y.2
-one_answer (Build name) (text ∷ []) a b (inl x) (inr y) = absurd (not_both text x.0 b x.1 y)
-one_answer (Build name) (text ∷ []) a b (inr x) (inl y) = absurd (not_both text y.0 a y.1 x)
-one_answer (Build name) (text ∷ []) a b (inr x) (inr y) = one_refusal text a b x y
+one_answer (Build name) (text ∷ []) a b x y = one_making text a b x y
+one_answer (Tour name) (text ∷ []) a b x y = one_making text a b x y
 one_answer (Load start cycles) [] a b x y = x ∙ sym y
 one_answer (Show text) [] a b x y = x ∙ sym y
 one_answer (AnswerRam size capture) [] a b x y = absurd x
@@ -305,5 +319,7 @@ one_answer (Answer name capture) [] a b x y = absurd x
 one_answer (Answer name capture) (o ∷ p ∷ q ∷ rest) a b x y = absurd x
 one_answer (Build name) [] a b x y = absurd x
 one_answer (Build name) (o ∷ p ∷ rest) a b x y = absurd x
+one_answer (Tour name) [] a b x y = absurd x
+one_answer (Tour name) (o ∷ p ∷ rest) a b x y = absurd x
 one_answer (Load start cycles) (o ∷ rest) a b x y = absurd x
 one_answer (Show text) (o ∷ rest) a b x y = absurd x

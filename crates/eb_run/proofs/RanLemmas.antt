@@ -7,13 +7,13 @@ use Rattle.eb_io.specs.Writing.{Writing}
 use Rattle.eb_io.specs.Outside.{Outside}
 use Rattle.eb_server.specs.declared.ending.Ending.{Ending}
 use Rattle.eb_server.specs.declared.ending.Ending.TheVariants as ending
-use Rattle.eb_text.specs.Command.{Command, AnswerRam, Answer, Build, Load, Show, IsCommand, IsNoCommand, OneCommand}
+use Rattle.eb_text.specs.Command.{Command, AnswerRam, Answer, Build, Tour, Load, Show, IsCommand, IsNoCommand, OneCommand}
 use Rattle.eb_text.specs.declared.status.Status.{Status}
 use Rattle.eb_text.specs.declared.status.TheConstants.Status as status
 use Rattle.eb_text.specs.declared.fault.Fault.{Fault}
 use Rattle.eb_text.specs.declared.fault.Fault.TheVariants as fault
 use Rattle.eb_run.specs.Run.{Run}
-use Rattle.eb_run.specs.Files.{NotOpened, ReadsDescription}
+use Rattle.eb_run.specs.Files.{NoFileOpened, ReadsDescription}
 use Rattle.eb_run.specs.Streams.{System, AnswersCapture, result_of}
 use Rattle.eb_run.specs.Commands.{SendsText, MakesText, ComesTo}
 use Rattle.eb_run.specs.Top.{WordsComeTo, status_for, Tells, Came, IsQuiet, Decides, RanWords}
@@ -39,7 +39,7 @@ may_send : (text : List ℕ) (out out' : Writing) (r : Result ⊤ Fault) → Sen
 may_send text out out' (Ok done) sends = tt
 may_send text out out' (Err f) sends = subst (λ (x : Fault). MayCome (Err x)) (sym sends.0) tt
 
-may_not_open : {F : Type 0} (old new : Outside F) (name : List ℕ) (r : Result ⊤ Fault) → NotOpened old new name r → MayCome r
+may_not_open : {F : Type 0} (old new : Outside F) (name : List ℕ) (r : Result ⊤ Fault) → NoFileOpened old new name r → MayCome r
 may_not_open old new name r (inl (is, failed)) = subst MayCome (sym is) tt
 may_not_open old new name r (inr (is, same)) = subst MayCome (sym is) tt
 
@@ -71,6 +71,8 @@ may_come run (Answer name capture) r (inl (f, is, reads, same)) = subst MayCome 
 may_come run (Answer name capture) r (inr (d, between, reads, answers)) = may_answer (record run { world = between }) capture _ r answers
 may_come run (Build name) r (inl (f, is, reads, same)) = subst MayCome (sym is) (may_read run.reading run.world run.world' name f reads)
 may_come run (Build name) r (inr (d, between, reads, (same, makes))) = may_make _ run.out run.out' r makes
+may_come run (Tour name) r (inl (f, is, reads, same)) = subst MayCome (sym is) (may_read run.reading run.world run.world' name f reads)
+may_come run (Tour name) r (inr (d, between, reads, (same, makes))) = may_make _ run.out run.out' r makes
 may_come run (Load start cycles) r (same, makes) = may_make _ run.out run.out' r makes
 may_come run (Show text) r (same, writes) = may_send text run.out run.out' r writes
 

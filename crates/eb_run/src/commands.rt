@@ -1,6 +1,6 @@
 // The commands, behind their words.
 ghost use Rattle.std.specs.Prelude.{map, string_bytes};
-ghost use Rattle.eb_text.specs.Command.{AnswerRam, Answer, Build, IsRamSize};
+ghost use Rattle.eb_text.specs.Command.{AnswerRam, Answer, Build, Tour, IsRamSize};
 ghost use Rattle.eb_run.specs.Run.{run_of};
 ghost use Rattle.eb_run.specs.Commands.{ComesTo, SendsText};
 ghost use Rattle.eb_run.specs.Top.{WordsComeTo};
@@ -11,7 +11,8 @@ use crate::slave::PlainSlave;
 use crate::streams::answer_capture;
 use eb_base::Width;
 use eb_io::{Sink, World, put_all};
-use eb_text::{Command, Fault, command_of, write_build};
+use eb_text::{Command, Fault, command_of, write_build, write_listing};
+use eb_tour::tour_described;
 use sdb_build::images;
 use soc_machine::Machine;
 use soc_trail::Unkept;
@@ -80,6 +81,25 @@ fn build<W: World, O: Sink>(
     Ok(())
 }
 
+// `tour DESC`
+fn tour<W: World, O: Sink>(
+    alloc: Global,
+    description: &str,
+    world: &mut W,
+    out: &mut O,
+) -> Result<(), Fault>
+    ensures comes_to { ComesTo
+        (run_of W.File.reading (W.outside world.old) (W.outside world.new) (O.writing out.old) (O.writing out.new))
+        (Tour description.now) result }
+{
+    let found = read_description(alloc, description, world)?;
+    let Ok(tree) = tour_described(alloc, &found) else {
+        return Err(Fault::NoMemory);
+    };
+    write_listing(&tree, out)?;
+    Ok(())
+}
+
 // `--help` and `--version`
 fn show<O: Sink>(text: &[u8], out: &mut O) -> Result<(), Fault>
     ensures shows { SendsText (O.writing out.old) (O.writing out.new) text.now result }
@@ -109,6 +129,7 @@ pub fn run_words<W: World, O: Sink>(
             capture,
         } => answer(alloc, description, capture, world, out),
         Command::Build { description } => build(alloc, description, world, out),
+        Command::Tour { description } => tour(alloc, description, world, out),
         Command::Load { start, cycles } => load(alloc, start, cycles, out),
         Command::Show(text) => show(text, out),
     }

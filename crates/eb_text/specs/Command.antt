@@ -36,6 +36,8 @@ pub data Command : Type 0 where
   Answer : List ℕ → List ℕ → Command
   -- name of the description
   Build : List ℕ → Command
+  -- name of the description
+  Tour : List ℕ → Command
   -- the number from which the cycles are made, and how many there are
   Load : ℕ → ℕ → Command
   -- the text that is shown
@@ -67,6 +69,11 @@ pub record IsBuild (words : List (List ℕ)) (description : List ℕ) : Type 0 w
   pub words_are : words ≡ codes "build" ∷ description ∷ []
   pub described : description ≢ []
 
+-- The words are `tour DESC`.
+pub record IsTour (words : List (List ℕ)) (description : List ℕ) : Type 0 where
+  pub words_are : words ≡ codes "tour" ∷ description ∷ []
+  pub described : description ≢ []
+
 -- The words are `load START N`.
 pub record IsLoad (words : List (List ℕ)) (start cycles : ℕ) : Type 0 where
   pub start_word : List ℕ
@@ -86,6 +93,7 @@ abbrev pub IsCommand : List (List ℕ) → Command → Type 0
 IsCommand words (AnswerRam octets capture) = IsAnswerRam words octets capture
 IsCommand words (Answer description capture) = IsAnswer words description capture
 IsCommand words (Build description) = IsBuild words description
+IsCommand words (Tour description) = IsTour words description
 IsCommand words (Load start cycles) = IsLoad words start cycles
 IsCommand words (Show text) = IsShow words text
 
@@ -102,5 +110,6 @@ abbrev pub command_seen : Seen → Command
 command_seen (seen.AnswerRam octets capture) = AnswerRam octets capture.now
 command_seen (seen.Answer description capture) = Answer description.now capture.now
 command_seen (seen.Build description) = Build description.now
+command_seen (seen.Tour description) = Tour description.now
 command_seen (seen.Load start cycles) = Load start cycles
 command_seen (seen.Show text) = Show text.now

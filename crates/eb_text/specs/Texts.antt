@@ -15,6 +15,8 @@ help_text =
     ++ line (codes "                              N octets, a multiple of 4 from 4 to 1048576")
     ++ line (codes "  eb answer DESC CAPTURE      answer them on the bus that the file DESC describes")
     ++ line (codes "  eb build DESC               show the SDB tables of that bus")
+    ++ line (codes "  eb tour DESC                show what discovery finds on that bus, read through a")
+    ++ line (codes "                              host and a slave")
     ++ line (codes "  eb load START N             answer N cycles, at most 100000, made from START,")
     ++ line (codes "                              which is below 2147483648, on a RAM of 65536 octets")
     ++ line (codes "  eb --help                   show this text")

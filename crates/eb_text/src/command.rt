@@ -1,6 +1,6 @@
 // The commands, read from their words.
 ghost use Rattle.std.specs.Prelude.{◌≡◌, ℕ, List, map, MatchOption, string_bytes};
-ghost use Rattle.eb_text.specs.Command.{IsAnswerRam, IsAnswer, IsBuild, IsLoad, IsShow, IsCommand, IsNoCommand, command_seen};
+ghost use Rattle.eb_text.specs.Command.{IsAnswerRam, IsAnswer, IsBuild, IsTour, IsLoad, IsShow, IsCommand, IsNoCommand, command_seen};
 
 use crate::numbers::{number_at_most, ram_size_of};
 use crate::texts::{help, version};
@@ -24,6 +24,10 @@ pub enum Command<'a> {
     },
     /// Shows the tables of a described bus.
     Build {
+        description: &'a str,
+    },
+    /// Shows what discovery finds on a described bus.
+    Tour {
         description: &'a str,
     },
     /// Answers so many cycles that are made from a number.
@@ -85,6 +89,20 @@ fn build_of(words: &[String]) -> Option<&str>
     Some(description.as_str())
 }
 
+// `tour DESC`.
+fn tour_of(words: &[String]) -> Option<&str>
+    ensures { MatchOption result ((description : List ℕ) → IsTour (map string_bytes words.now) description → ⊥)
+        (λ x. IsTour (map string_bytes words.now) x.now) }
+{
+    let [first, description] = words else {
+        return None;
+    };
+    if first.as_str() != "tour" || description.is_empty() {
+        return None;
+    }
+    Some(description.as_str())
+}
+
 // `load START N`.
 fn load_of(words: &[String]) -> Option<(u32, u32)>
     ensures { MatchOption result ((start cycles : ℕ) → IsLoad (map string_bytes words.now) start cycles → ⊥)
@@ -134,6 +152,9 @@ pub fn command_of(words: &[String]) -> Option<Command<'_>>
     }
     if let Some(description) = build_of(words) {
         return Some(Command::Build { description });
+    }
+    if let Some(description) = tour_of(words) {
+        return Some(Command::Tour { description });
     }
     if let Some((start, cycles)) = load_of(words) {
         return Some(Command::Load { start, cycles });

@@ -12,6 +12,8 @@ pub fn help() -> &'static [u8]
                               N octets, a multiple of 4 from 4 to 1048576
   eb answer DESC CAPTURE      answer them on the bus that the file DESC describes
   eb build DESC               show the SDB tables of that bus
+  eb tour DESC                show what discovery finds on that bus, read through a
+                              host and a slave
   eb load START N             answer N cycles, at most 100000, made from START,
                               which is below 2147483648, on a RAM of 65536 octets
   eb --help                   show this text

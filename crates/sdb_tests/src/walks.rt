@@ -39,6 +39,10 @@ impl WordReader for Memory {
 
     ghost told = { λ memory. Some memory.told };
 
+    ghost Origin = { Unit {0} };
+
+    ghost origin = { λ memory. tt };
+
     fn word(&mut self, adr: u64) -> Result<u32, NoWord<u8>> {
         let word = self.answer(adr);
         self.asked = self.asked.saturating_add(1);

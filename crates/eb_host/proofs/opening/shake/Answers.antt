@@ -22,6 +22,7 @@ returns-in-Ok-head g c = record {
       headed = c.in-Ok-head.ensures.heads;
     },
   );
+  other_end = c.in-Ok-head.ensures.other_end ∙ c.in-Ok.ensures.other_end;
 }
 
 pub returns-in-Err-head : goal.returns-in-Err-head
@@ -39,4 +40,5 @@ returns-in-Err-head g c = record {
     };
     headed = c.in-Err-head.ensures.heads;
   }));
+  other_end = c.in-Err-head.ensures.other_end ∙ c.in-Ok.ensures.other_end;
 }

@@ -1,6 +1,6 @@
 use Rattle.std.proofs.Common.{◌≡◌, ◌++◌, ℕ, List, length, drop, ap, ◌∙◌, arith, length-append}
 use lib.Seq.{drop-append-le}
-use Rattle.eb_loopback.proofs.JoinedLemmas.{joined_taken, joined_ended}
+use Rattle.eb_loopback.proofs.JoinedLemmas.{joined_taken, joined_ended, joined_counted}
 use Rattle.eb_loopback.proofs.loopback.Loopback.feed.Goals as goal
 
 pub invariant_of-self-in-Ok : goal.invariant_of-self-in-Ok
@@ -15,6 +15,7 @@ invariant_of-self-in-Ok g c =
       omega (arith, c.self.invariant.1, c.in-Ok.ensures.placed.place),
       joined_taken g.M.Master.identity g.M.Master.cycles _ c.feed.new.self c.feed.new.master c.args.piece.now c.push_all.new.trail (drop at c.put.new.out.items) c.in-Ok.fed c.self.invariant.2
           c.in-Ok.ensures.fed c.in-Ok.ensures.running c.in-Ok.ensures.slave c.in-Ok.ensures.identity c.push_all.ensures.items unread,
+      λ none. c.in-Ok.ensures.running,
     )
 
 pub invariant_of-self-in-Err : goal.invariant_of-self-in-Err
@@ -23,5 +24,6 @@ invariant_of-self-in-Err g c =
     c.in-Err.ensures.fed c.in-Err.ensures.slave c.in-Err.ensures.identity (ap (λ (l : List ℕ). drop c.self.inside.at l) c.reserve.ensures.items) in (
       omega (arith, c.self.invariant.0, ap length c.reserve.ensures.items),
       omega (arith, c.self.invariant.1, c.in-Err.ensures.bound),
-      joined,
+      joined_counted g.M.Master.identity g.M.Master.cycles _ c.saturating_add-self-inside.result joined,
+      λ none. absurd (omega (arith, none)),
     )

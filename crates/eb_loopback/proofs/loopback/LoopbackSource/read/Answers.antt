@@ -15,4 +15,5 @@ invariant_of-self g c =
       c.self.invariant.1,
       joined_read g.M.Master.identity g.M.Master.cycles _ n c.push_all.new.trail (drop c.forget_read-self-inside.result c.forget_read-self-inside.new.replies.items) c.self.invariant.2
           (c.push_all.ensures.items ∙ ap (λ (l : List ℕ). c.self.inside.read ++ l) front) (c.forget_read-self-inside.ensures.unread ∙ sym (drop-drop n at old)),
+      c.self.invariant.3,
     )
