@@ -19,7 +19,6 @@ use Rattle.eb_codec.proofs.FieldLemmas.{IsBytes-take}
 use Rattle.eb_codec.proofs.ItemLemmas.{size-ge, spells_item_in}
 use Rattle.eb_codec.proofs.CompletionLemmas.{is_partial, IsBytes-zeros}
 use Rattle.eb_codec.proofs.BadLemmas.{bad_octet}
-use Rattle.eb_codec.proofs.RoomLemmas.{size_take}
 use Rattle.eb_codec.proofs.ViewLemmas.{is_record}
 
 -- the front of the room is what pends
@@ -153,16 +152,6 @@ holds_whole sets (Some h) room' n have len bytes none most size-is =
 pub holds_zeros : (sets : Widths) (room : List ℕ) (n : ℕ) → n ≡ 4104 → HaveWidths sets → room ≡ replicate n 0 → Holds sets None room 0 false
 holds_zeros sets room n n-is have e =
     holds_nothing sets None room have (ap length e ∙ length-replicate n 0 ∙ n-is) (subst IsBytes (sym e) (IsBytes-zeros n))
-
--- whether the item is whole can be told from the whole room
-pub lt_size : (header : Option Header) (room : List ℕ) (n : ℕ) → n ≤ length room → n < size header room → n < size header (take n room)
-lt_size header room n fits lt = elim (cases_lt n 4) [
-  | inl few ↦ omega (arith, size-ge header (take n room))
-  | inr long ↦ omega (arith, size_take header room n long fits)
-]
-
-pub ge_size : (header : Option Header) (room : List ℕ) (n : ℕ) → n ≤ length room → size header room ≤ n → n ≤ size header (take n room) → n ≡ size header (take n room)
-ge_size header room n fits ge le = omega (arith, size-ge header room, size_take header room n (omega (arith, size-ge header room)) fits)
 
 if_none : (P : Type 0) (Q : Malformed → Type 0) (o : Option Malformed) → o ≡ None → P → MatchOption o P Q
 if_none P Q None e p = p

@@ -16,6 +16,7 @@ use eb_base::{NoMemory, Width};
 const ZEROS: [u8; 8] = [0; 8];
 
 /// Appends octets for which there is room.
+#[inline(always)]
 pub fn put(out: &mut Vec<u8>, octets: &[u8])
     requires { vec_len out.old + length octets.now ≤ vec_capacity out.old }
     ensures items { out.new.items ≡ out.old.items ++ octets.now }
@@ -29,6 +30,7 @@ pub fn put(out: &mut Vec<u8>, octets: &[u8])
 }
 
 /// Appends padding for which there is room.
+#[inline(always)]
 pub fn put_zeros(out: &mut Vec<u8>, n: usize)
     requires room { vec_len out.old + n ≤ vec_capacity out.old }
     requires few { n ≤ 8 }
@@ -41,6 +43,7 @@ pub fn put_zeros(out: &mut Vec<u8>, n: usize)
 
 // Appends the octets of a number.
 #[tactic(auto, unfolding(eb_base::specs::Field::octets_of))]
+#[inline(always)]
 fn put_number(out: &mut Vec<u8>, width: Width, n: u64)
     requires room { vec_len out.old + width_octets width ≤ vec_capacity out.old }
     requires fits { n < 256 ^ width_octets width }
@@ -57,6 +60,7 @@ fn put_number(out: &mut Vec<u8>, width: Width, n: u64)
 }
 
 /// Appends a number in its field, for which there is room.
+#[inline(always)]
 pub fn put_field(out: &mut Vec<u8>, header: Header, width: Width, n: u64)
     requires room { vec_len out.old + field_octets header ≤ vec_capacity out.old }
     requires fits { n < 256 ^ width_octets width }

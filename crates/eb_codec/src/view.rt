@@ -1,6 +1,6 @@
 //! A whole record as one value, whose numbers are read where they lie.
 
-ghost use Rattle.std.specs.Prelude.{◌≡◌, ◌<◌, ◌≤◌, ◌+◌, ◌^◌, length, slice_index, drop};
+ghost use Rattle.std.specs.Prelude.{◌≡◌, ◌<◌, ◌≤◌, ◌+◌, ◌^◌, length, slice_index, drop, IfSome};
 ghost use Rattle.eb_base.specs.Width.{octets as width_octets};
 ghost use Rattle.eb_codec.specs.Form.{FitsRecord, KeepsRules};
 ghost use Rattle.eb_codec.specs.Sizes.{field_octets, unit_octets};
@@ -38,7 +38,27 @@ impl<'a> RecordView<'a> {
         RecordView { header, octets }
     }
 
+    /// The same record, where its addresses and its port have 32 bits. The compiler then knows these widths.
+    #[inline(always)]
+    pub fn words(&self) -> Option<RecordView<'a>>
+        ensures same { IfSome result (λ v. v ≡ self.now) }
+    {
+        let no_reply = self.header.no_reply;
+        match (self.header.address, self.header.port) {
+            (Width::W32, Width::W32) => Some(RecordView {
+                header: Header {
+                    no_reply,
+                    address: Width::W32,
+                    port: Width::W32,
+                },
+                octets: self.octets,
+            }),
+            _ => None,
+        }
+    }
+
     /// The header that the record stands behind.
+    #[inline(always)]
     pub fn header(&self) -> Header
         ensures value { result ≡ self.now.header }
     {
@@ -46,6 +66,7 @@ impl<'a> RecordView<'a> {
     }
 
     /// The record's first four octets. The record has as many numbers as they say, and breaks no rule.
+    #[inline(always)]
     pub fn head(&self) -> RecordHead
         ensures value { result ≡ self.now.item.head }
         ensures fits { FitsRecord self.now.header self.now.item }
@@ -55,6 +76,7 @@ impl<'a> RecordView<'a> {
     }
 
     /// The base address of the writes, 0 where there are none.
+    #[inline(always)]
     pub fn write_base(&self) -> u64
         ensures value { result ≡ self.now.item.write_base }
         ensures most { result < 256 ^ width_octets self.now.header.address }
@@ -64,6 +86,7 @@ impl<'a> RecordView<'a> {
     }
 
     /// The value of number i, from 0.
+    #[inline(always)]
     pub fn value(&self, i: usize) -> u64
         requires there { i < self.now.item.head.writes }
         ensures value { result ≡ slice_index self.now.item.values i }
@@ -75,6 +98,7 @@ impl<'a> RecordView<'a> {
     }
 
     /// The base address of the reply, 0 where nothing is read.
+    #[inline(always)]
     pub fn return_base(&self) -> u64
         ensures value { result ≡ self.now.item.return_base }
         ensures most { result < 256 ^ width_octets self.now.header.address }
@@ -84,6 +108,7 @@ impl<'a> RecordView<'a> {
     }
 
     /// The address of number i, from 0, that is read.
+    #[inline(always)]
     pub fn address(&self, i: usize) -> u64
         requires there { i < self.now.item.head.reads }
         ensures value { result ≡ slice_index self.now.item.addresses i }
@@ -96,6 +121,7 @@ impl<'a> RecordView<'a> {
 }
 
 // Where a number begins in its field.
+#[inline(always)]
 fn offset(header: Header, width: Width) -> usize
     requires { width_octets width ≤ field_octets header }
     ensures { result + width_octets width ≡ field_octets header }
@@ -104,6 +130,7 @@ fn offset(header: Header, width: Width) -> usize
 }
 
 // The base address of the part that begins at an octet.
+#[inline(always)]
 fn base_at(header: Header, octets: &[u8], part: usize, count: u8) -> u64
     requires within { part + part_octets header count ≤ length octets.now }
     ensures { result ≡ base_in header count (drop part octets.now) }
@@ -120,6 +147,7 @@ fn base_at(header: Header, octets: &[u8], part: usize, count: u8) -> u64
 }
 
 // A number of the list of the part that begins at an octet.
+#[inline(always)]
 fn number_at(header: Header, width: Width, octets: &[u8], part: usize, count: u8, i: usize) -> u64
     requires within { part + part_octets header count ≤ length octets.now }
     requires there { i < count }
@@ -132,6 +160,7 @@ fn number_at(header: Header, width: Width, octets: &[u8], part: usize, count: u8
 }
 
 // Where the part of the reads begins.
+#[inline(always)]
 fn second_part(header: Header, octets: &[u8]) -> usize
     requires { 4 ≤ length octets.now }
     ensures { result ≡ unit_octets header + part_octets header (slice_index octets.now 2) }

@@ -47,9 +47,9 @@ one_read p e word is errs got range =
 -- ---- as they come
 
 -- a pair more in the open cycle
-pub pair_added : (opened one more : Totals) (pairs : List Pair) (p : Pair) → opened ≡ totals pairs → one ≡ totals (p ∷ []) → more ≡ joined opened one → more ≡ totals (pairs ++ p ∷ [])
-pair_added opened one more pairs p so_far this both =
-    both ∙ ap (λ (t : Totals). joined t one) so_far ∙ ap (λ (t : Totals). joined (totals pairs) t) this ∙ joined-totals pairs (p ∷ [])
+pub pair_added : (opened more : Totals) (pairs : List Pair) (p : Pair) → opened ≡ totals pairs → more ≡ joined opened (totals (p ∷ [])) → more ≡ totals (pairs ++ p ∷ [])
+pair_added opened more pairs p so_far both =
+    both ∙ ap (λ (t : Totals). joined t (totals (p ∷ []))) so_far ∙ joined-totals pairs (p ∷ [])
 
 operations-more : (entries : List Entry) (e : Entry) → operations (entries ++ e ∷ []) ≡ operations entries ++ e.pairs
 operations-more entries e =

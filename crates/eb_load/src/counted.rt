@@ -44,26 +44,7 @@ fn word_in(answer: Answer) -> u64
     }
 }
 
-fn totals_of_pair(pair: &Pair) -> Totals
-    ensures value { result ≡ totals (pair.now ∷ []) }
-{
-    let errors = refusals(pair.answer);
-    if pair.op.write {
-        Totals {
-            writes: 1,
-            errors,
-            ..NOTHING
-        }
-    } else {
-        Totals {
-            reads: 1,
-            errors,
-            sum: word_in(pair.answer),
-            ..NOTHING
-        }
-    }
-}
-
+#[inline(always)]
 fn joined(a: Totals, b: Totals) -> Totals
     ensures value { result ≡ joined a b }
 {
@@ -72,6 +53,30 @@ fn joined(a: Totals, b: Totals) -> Totals
         reads: a.reads.saturating_add(b.reads),
         errors: a.errors.saturating_add(b.errors),
         sum: a.sum.wrapping_add(b.sum),
+    }
+}
+
+// The totals with those of a pair more, in code for each of the two.
+#[inline(always)]
+fn with_pair(all: Totals, pair: &Pair) -> Totals
+    ensures value { result ≡ joined all (totals (pair.now ∷ [])) }
+{
+    let errors = refusals(pair.answer);
+    if pair.op.write {
+        let one = Totals {
+            writes: 1,
+            errors,
+            ..NOTHING
+        };
+        joined(all, one)
+    } else {
+        let one = Totals {
+            reads: 1,
+            errors,
+            sum: word_in(pair.answer),
+            ..NOTHING
+        };
+        joined(all, one)
     }
 }
 
@@ -133,7 +138,7 @@ impl<R: Recorder> Recorder for Counted<R> {
 
     #[tactic(auto, using(crate::proofs::SummaryLemmas::pair_added))]
     fn add(&mut self, pair: Pair) {
-        self.opened = joined(self.opened, totals_of_pair(&pair));
+        self.opened = with_pair(self.opened, &pair);
         self.recorder.add(pair);
     }
 

@@ -9,6 +9,7 @@ use wb_signals::{Answer, Master};
 
 /// The word that a read of the configuration space gives a port.
 #[tactic(auto, unfolding(crate::specs::Configuration::config_word))]
+#[inline(never)]
 pub fn config(port: Width, root: u64, errors: u64, adr: u64, sel: u8) -> u64
     ensures value { result ≡ config_word port root errors adr sel }
     ensures most { result < 256 ^ octets port }

@@ -1,7 +1,9 @@
 //! The replies to items.
 ghost use Rattle.std.specs.Prelude.{◌≡◌, ◌≢◌, ◌<◌, ◌≤◌, ◌+◌, ◌*◌, ◌^◌, ◌++◌, length, vec_len, vec_capacity};
 ghost use Rattle.std.specs.List.{flat_map};
+ghost use Rattle.eb_base.specs.declared.width.Width.TheVariants.{W32};
 ghost use Rattle.eb_base.specs.Width.{octets};
+ghost use Rattle.eb_base.specs.Lanes.{word_of};
 ghost use Rattle.eb_codec.specs.Form.{FitsProbe, zeroed, field};
 ghost use Rattle.eb_codec.specs.Sizes.{field_octets};
 ghost use Rattle.eb_session.specs.Operations.{bus_writes, bus_reads, upto};
@@ -18,6 +20,7 @@ use eb_codec::{Header, Probe, RecordView};
 use wb_signals::{Answer, Master};
 
 // The flags of the reply to a record with these.
+#[inline(always)]
 fn flags_of(flags: u8) -> u8
     ensures value { result ≡ reply_flags flags }
 {
@@ -27,7 +30,30 @@ fn flags_of(flags: u8) -> u8
     base + fixed + ends
 }
 
+// All lanes of a word of 32 bits, on a bus of 32 bits.
+#[inline(always)]
+fn whole_word(adr: u64, dat: u64) -> u64
+    ensures value { result ≡ word_of W32 W32 adr dat 15 }
+{
+    dat % 0x1_0000_0000
+}
+
+// What a port gets of a word of the bus.
+#[inline(always)]
+fn word_of_bus(port: Width, bus: Width, adr: u64, dat: u64, sel: u8) -> u64
+    requires narrow { octets port ≤ octets bus }
+    requires some_lane { 1 ≤ sel }
+    requires lanes { sel < 2 ^ octets port }
+    ensures value { result ≡ word_of port bus adr dat sel }
+{
+    match (port, bus, sel) {
+        (Width::W32, Width::W32, 15) => whole_word(adr, dat),
+        _ => word(port, bus, adr, dat, sel),
+    }
+}
+
 // The word of an answer.
+#[inline(always)]
 fn answered(port: Width, bus: Width, adr: u64, sel: u8, answer: Answer) -> u64
     requires narrow { octets port ≤ octets bus }
     requires some_lane { sel ≢ 0 }
@@ -36,12 +62,13 @@ fn answered(port: Width, bus: Width, adr: u64, sel: u8, answer: Answer) -> u64
     ensures most { result < 256 ^ octets port }
 {
     match answer {
-        Answer::Ack(dat) => word(port, bus, adr, dat, sel),
+        Answer::Ack(dat) => word_of_bus(port, bus, adr, dat, sel),
         Answer::Err | Answer::Rty => 0,
     }
 }
 
 // Word i of those that the record read, `errors` being the register after it.
+#[inline(always)]
 fn read<M: Master>(slave: Slave, view: &RecordView<'_>, master: &M, errors: u64, i: usize) -> u64
     requires narrow { octets view.now.header.port ≤ octets slave.bus }
     requires inside { i < view.now.item.head.reads }
@@ -60,6 +87,7 @@ fn read<M: Master>(slave: Slave, view: &RecordView<'_>, master: &M, errors: u64,
 
 // Appends the words that the record read.
 #[tactic(auto, using(crate::proofs::ListLemmas::one_more_word))]
+#[inline(always)]
 fn put_words<M: Master>(
     slave: Slave,
     view: &RecordView<'_>,
@@ -84,8 +112,9 @@ fn put_words<M: Master>(
     }
 }
 
-/// Appends the reply to a record that ran on the master, `errors` being the register after it.
-pub fn put_reply<M: Master>(
+// Appends the reply to a record that ran on the master, `errors` being the register after it.
+#[inline(always)]
+fn put_answers<M: Master>(
     slave: Slave,
     view: &RecordView<'_>,
     master: &M,
@@ -109,6 +138,56 @@ pub fn put_reply<M: Master>(
     put_field(reply, header, header.address, view.return_base());
     put_words(slave, view, master, errors, reply);
     put_zeros(reply, trailing(header, head.reads, 0));
+}
+
+// The same, to a record that is not of 32 bits.
+#[inline(never)]
+fn put_others<M: Master>(
+    slave: Slave,
+    view: &RecordView<'_>,
+    master: &M,
+    errors: u64,
+    reply: &mut Vec<u8>,
+)
+    requires narrow { octets view.now.header.port ≤ octets slave.bus }
+    requires answers { bus_writes view.now.item + bus_reads view.now.item ≤ length (M.answered master.now) }
+    requires room { vec_len reply.old + 2056 ≤ vec_capacity reply.old }
+    ensures items { reply.new.items
+        ≡ reply.old.items ++ record_reply slave view.now.header view.now.item (M.answered master.now) errors }
+    ensures len { vec_len reply.new ≤ vec_len reply.old + 2056 }
+    ensures room { vec_capacity reply.old ≤ vec_capacity reply.new }
+{
+    put_answers(slave, view, master, errors, reply);
+}
+
+/// Appends the reply to a record that ran on the master, `errors` being the register after it.
+#[inline(always)]
+pub fn put_reply<M: Master>(
+    slave: Slave,
+    view: &RecordView<'_>,
+    master: &M,
+    errors: u64,
+    reply: &mut Vec<u8>,
+)
+    requires narrow { octets view.now.header.port ≤ octets slave.bus }
+    requires answers { bus_writes view.now.item + bus_reads view.now.item ≤ length (M.answered master.now) }
+    requires room { vec_len reply.old + 2056 ≤ vec_capacity reply.old }
+    ensures items { reply.new.items
+        ≡ reply.old.items ++ record_reply slave view.now.header view.now.item (M.answered master.now) errors }
+    ensures len { vec_len reply.new ≤ vec_len reply.old + 2056 }
+    ensures room { vec_capacity reply.old ≤ vec_capacity reply.new }
+{
+    // The common case, in code for its widths alone.
+    match (slave.bus, view.words()) {
+        (Width::W32, Some(words)) => {
+            let slave = Slave {
+                bus: Width::W32,
+                root: slave.root,
+            };
+            put_answers(slave, &words, master, errors, reply);
+        }
+        _ => put_others(slave, view, master, errors, reply),
+    }
 }
 
 /// Appends the reply to a probe.

@@ -4,7 +4,7 @@ ghost use Rattle.std.specs.Prelude.{◌≡◌, ◌≢◌, ◌↔◌, ◌++◌, �
 use std::marker::Model;
 use std::snapshot::Snapshot;
 
-/// A list as clauses see it, of which memory holds at most the last item.
+/// A list as clauses see it. Memory holds only whether it has items.
 #[cycle(trail)]
 #[derive(Drop)]
 pub struct Trail<T> {
@@ -16,7 +16,7 @@ pub struct Trail<T> {
 #[derive(Drop)]
 enum Last<T> {
     None,
-    Some(Snapshot<Trail<T>>, T),
+    Some(Snapshot<Trail<T>>, Snapshot<T>),
 }
 
 impl<T> Model for Trail<T> {
@@ -48,6 +48,7 @@ impl<T: Drop> Trail<T> {
         ensures items { self.new ≡ self.old ++ item ∷ [] }
     {
         let before = Snapshot::of(self);
+        let item = Snapshot::of(&item);
         *self = Trail {
             last: Last::Some(before, item),
         };

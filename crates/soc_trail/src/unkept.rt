@@ -8,7 +8,7 @@ use soc_journal::Pair;
 use std::marker::Model;
 use std::mem;
 
-/// A cycle that has ended, of which memory holds at most the last pair.
+/// A cycle that has ended.
 #[derive(Drop)]
 struct Cycle {
     master: u8,
