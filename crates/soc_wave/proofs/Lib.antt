@@ -13,3 +13,5 @@ pub mod Risen
 pub mod Watched
 pub mod Naming
 pub mod WaveByNumber
+pub mod FlatRows
+pub mod Numbered

@@ -5,4 +5,6 @@ pub mod Legal
 pub mod Pairs
 pub mod Shown
 pub mod Readings
+pub mod Flat
+pub mod Text
 pub mod Laws

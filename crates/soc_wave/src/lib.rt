@@ -10,6 +10,9 @@
 //! The rows that ticks add while a bus is watched from its first clock on are a legal wave for the sets that its ports
 //! raise, and its journal begins with the cycles that rose and fell in them.
 //!
+//! - `wave`: the rows of a bus, in one flat room
+//! - `view`: a row where it lies
+//! - `text`: the text of a wave
 //! - `laws`: what holds of every watched bus
 //!
 //! In `specs`: `Rows`, what is read in rows; `Requests`, the requests of a port and when each is answered;
@@ -18,3 +21,9 @@
 #![tactic(auto)]
 
 pub mod laws;
+mod text;
+mod view;
+mod wave;
+
+pub use view::RowView;
+pub use wave::Wave;
