@@ -1,0 +1,17 @@
+pub mod Frames
+pub mod Ports
+pub mod Keeping
+pub mod Queues
+pub mod Clocks
+pub mod Grants
+pub mod Events
+pub mod Releases
+pub mod Ticks
+pub mod Bounds
+pub mod Stakes
+pub mod Rooms
+pub mod Examples
+pub mod Numbers
+pub mod BuiltLemmas
+pub mod Settled
+pub mod RunLemmas
