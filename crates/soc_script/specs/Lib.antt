@@ -4,3 +4,4 @@ pub mod Script
 pub mod Reading
 pub mod Laws
 pub mod Spelling
+pub mod Cycles
