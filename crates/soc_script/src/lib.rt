@@ -11,10 +11,12 @@
 //! - `line`: a line of a script, and its text
 //! - `script`: a script, and its text
 //! - `fault`: why a text was refused
+//! - `laws`: what holds of scripts and their texts
 #![tactic(auto)]
 
 mod digits;
 mod fault;
+pub mod laws;
 mod line;
 mod operation;
 mod pieces;

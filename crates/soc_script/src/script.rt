@@ -77,15 +77,16 @@ fn read_lines(
     let mut ops = 0;
     'reading: while let Some(text) = texts.next() {
         number += 1;
+        let refused = ScriptFault::Refused(number);
         if number > MOST_LINES {
-            return Err(ScriptFault::Refused(number));
+            return Err(refused);
         }
         let Some(line) = line_of(alloc, text, masters, bus)? else {
-            return Err(ScriptFault::Refused(number));
+            return Err(refused);
         };
         ops += line.ops.len();
         if ops > MOST_OPS {
-            return Err(ScriptFault::Refused(number));
+            return Err(refused);
         }
         lines.push(line)?;
     }
