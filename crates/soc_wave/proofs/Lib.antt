@@ -15,3 +15,5 @@ pub mod Naming
 pub mod WaveByNumber
 pub mod FlatRows
 pub mod Numbered
+pub mod Decided
+pub mod Examples
