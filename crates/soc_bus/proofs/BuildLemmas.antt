@@ -65,12 +65,12 @@ bus_of x = refl
 module _ (d : Description) (accepted : IsAccepted d) (x : CrossbarState) (cs : List CycleView) (ps : List engine.PortState) (arb : Turn) (j : JournalState)
     (is_x : x ≡ record { width = W32; children = map wb.child_of (map part_built (parts_of (root_shown d.bus))); contents = contents_in (map part_built (parts_of (root_shown d.bus))); owed = replicate d.masters [] })
     (is_cs : states cs ≡ resting_ports d.masters) (is_ps : ps ≡ replicate d.masters (engine.idle_port d.depth))
-    (is_arb : arb ≡ record { ports = d.masters; first = 0 }) (is_j : j ≡ record { entries = []; spare = 0 }) where
+    (is_arb : arb ≡ record { ports = d.masters; first = 0 }) (is_j : j.entries ≡ []) where
   pub built_is : (bus_state d x cs ps arb j).core ≡ built_core (fabric_of d)
   built_is =
       let ports : joined (states cs) ps x.owed ≡ resting_ports d.masters = (λ i. joined (is_cs i) (is_ps i) (is_x i).owed) ∙ joined_idle d.masters d.depth in
       let contents = ap (λ (y : CrossbarState). y.contents) is_x ∙ contents_is d.bus accepted.sound in
-      λ i. record { ports = ports i; contents = contents i; first = (is_arb i).first; journal = (is_j i).entries }
+      λ i. record { ports = ports i; contents = contents i; first = (is_arb i).first; journal = is_j i }
 
   each_at : ((P : CorePort → Type 0) → P resting_port → (m : ℕ) → P (port (built_core (fabric_of d)) m)) → (m : ℕ) → length (port (built_core (fabric_of d)) m).loaded ≤ get_or (rooms cs) m 0
   each_at each m =

@@ -1,5 +1,5 @@
 -- One port of a bus whose other ports are idle.
-use Rattle.std.proofs.Common.{◌≡◌, ◌≢◌, inl, inr, ℕ, zero, suc, ◌+◌, ◌^◌, ◌<◌, ◌≤◌, ◌==◌, List, [], ◌∷◌, ◌++◌, length, take, drop, slice_get, Result, Ok, Err, OnOk, Bool, true, false, Option, Some, None, refl, ap, sym, ◌∙◌, subst, arith}
+use Rattle.std.proofs.Common.{◌≡◌, ◌≢◌, inl, inr, ℕ, zero, suc, ◌+◌, ◌^◌, ◌<◌, ◌≤◌, ◌==◌, List, [], ◌∷◌, ◌++◌, length, take, drop, slice_get, Result, Ok, Err, OnOk, OnErr, IsTrue, ◌↔◌, Bool, true, false, Option, Some, None, refl, ap, sym, ◌∙◌, subst, arith}
 use Rattle.std.specs.Int.{bit_at}
 use Rattle.std.proofs.lemmas.Bool.{cases_eq}
 use Rattle.wb_signals.specs.Request.{Request}
@@ -15,8 +15,8 @@ use Rattle.std.proofs.lemmas.Nat.{or_lt}
 use Rattle.std.proofs.lemmas.Nat.Bits.{bit_at_ones, bit_at_or, bit_at-pow_same}
 use Rattle.std.proofs.Math.Pow.{pow-lt}
 use Rattle.eb_base.specs.declared.width.Width.TheVariants.{W32}
-use Rattle.wb_signals.specs.Cycles.{AllFitBus, Asks, paired, ended, made_after, opened_after, cycle_ended, pairs_added}
-use Rattle.wb_signals.proofs.CycleLemmas.{added-some, cut-some}
+use Rattle.wb_signals.specs.Cycles.{AllFitBus, Asks, paired, made_after, opened_after, pairs_added}
+use Rattle.wb_signals.proofs.CycleLemmas.{added-some}
 use Rattle.soc_core.specs.Fabric.{Fabric, IsFabric, AllGoIn, IsIn}
 use Rattle.soc_core.specs.Core.{Idle, Wants, Holds, Leaves, CorePort, Core, port, unloaded, with_load, with_taken, phase_after, raised, loaded, taken, released, raised_of, pending, CanRaise, CanLoad, CanRelease, IsTick}
 use Rattle.soc_core.specs.Sound.{StandsIn, IsSoundCore}
@@ -299,17 +299,15 @@ record_told began old new m f ops answers last goes_on asks r =
     some [] is = λ e. (asks (sym is)).1 (append_none (port old.core m).opened (paired ops answers) e)
     some (q ∷ rs) is = paired_some (port old.core m).opened ops answers (λ e. absurd (let never : q ∷ rs ≡ [] = is ∙ e in cc)) r.count
 
--- after a cut of an open cycle
-pub cut_told : (began old new : BusState) (m : ℕ) → take (length began.core.journal) old.core.journal ≡ began.core.journal → (port old.core m).opened ≢ []
-    → new.core.journal ≡ ended m true old.core.journal (port old.core m).opened → (port new.core m).opened ≡ []
-    → cycles_since began new m ≡ cycle_ended m true (cycles_since began old m)
-cut_told began old new m goes_on some journal none =
-    let e : length (take (length began.core.journal) old.core.journal) ≡ length began.core.journal = ap (λ (es : List Entry). length es) goes_on in
-    let within : length began.core.journal ≤ length old.core.journal = omega (arith, e, length-take (length began.core.journal) old.core.journal) in
-    (λ i. record { made = drop (length began.core.journal) (journal i); opened = none i })
-    ∙ ap (λ (es : List Entry). record { made = es; opened = [] }) (drop-append-le (length began.core.journal) old.core.journal _ within)
-    ∙ cut-some m (made_since began old) (port old.core m).opened some
-
 pub ok_then : {A E P Q : Type 0} (r : Result A E) → (P → Q) → OnOk r P → OnOk r Q
 ok_then (Ok x) f p = f p
 ok_then (Err e) f p = tt
+
+pub err_then : {A E P Q : Type 0} (r : Result A E) → (P → Q) → OnErr r P → OnErr r Q
+err_then (Ok x) f p = tt
+err_then (Err e) f p = f p
+
+-- a test that there are pairs, which fails
+pub none_of : (b : Bool) (ps : List Pair) → b ≡ false → IsTrue b ↔ (ps ≢ []) → ps ≡ []
+none_of b [] fails h = refl
+none_of b (p ∷ ps) fails h = absurd (let holds : b ≡ true = h.1 (λ e. absurd (let never : p ∷ ps ≡ [] = e in cc)) in cc)

@@ -1,5 +1,5 @@
 //! The bus.
-ghost use Rattle.std.specs.Prelude.{◌≡◌, ◌≤◌, ◌<◌, ◌^◌, ◌+◌, ℕ, length, take, replicate, [], false, IfOk, OnOk, OnErr, Some, slice_get};
+ghost use Rattle.std.specs.Prelude.{IsTrue, ◌≡◌, ◌≢◌, ◌↔◌, ◌≤◌, ◌<◌, ◌^◌, ◌+◌, ℕ, length, take, replicate, [], false, IfOk, OnOk, OnErr, Some, slice_get};
 ghost use Rattle.soc_desc.specs.Accepted.{IsAccepted};
 ghost use Rattle.wb_crossbar.specs.Grant.{IsGrant, IsNext};
 ghost use Rattle.wb_port.specs.Port.{idle_port as idle_engine};
@@ -11,11 +11,11 @@ ghost use Rattle.soc_bus.specs.View.{IsBus, states, rooms, sets_given, sets_want
 
 use crate::clock::clock;
 use crate::cycle::Cycle;
+use crate::recorder::{BusRecorder, PairRecorder};
 use crate::sets::{all_of, asked};
 use crate::tree::top_slots;
 use eb_base::{NoMemory, Width};
 use soc_desc::Description;
-use soc_journal::{Entry, Journal, Pairs};
 use std::alloc::Global;
 use std::marker::Model;
 use std::snapshot::Snapshot;
@@ -26,16 +26,16 @@ use wb_tree::Node;
 
 /// A bus with many ports, clock by clock.
 #[derive(Drop)]
-pub struct Bus {
+pub struct Bus<R: BusRecorder> {
     crossbar: Crossbar<Node>,
-    cycles: Vec<Cycle>,
+    cycles: Vec<Cycle<R::Pairs>>,
     ports: Vec<Port>,
     arbiter: Arbiter,
-    journal: Journal,
+    journal: R,
     description: Snapshot<Description>,
 }
 
-impl Model for Bus {
+impl<R: BusRecorder> Model for Bus<R> {
     ghost use Rattle.std.specs.Coded.{codes};
     ghost use Rattle.soc_desc.specs.contracts.description.ItemDescription as item;
     ghost use Rattle.wb_tree.specs.Tree.{node_slave, IsSound};
@@ -48,18 +48,19 @@ impl Model for Bus {
 
     ghost view = { λ b.
         bus_state b.description.value (crossbar_of node_slave b.crossbar) b.cycles.items b.ports.items b.arbiter
-        b.journal };
+        (R.journal b.journal) };
 
     ghost invariant = { λ b.
         IsBus (bus_state b.description.value (crossbar_of node_slave b.crossbar) b.cycles.items b.ports.items b.arbiter
-        b.journal)
+        (R.journal b.journal))
         × IsMadeOf b.description.value (crossbar_of node_slave b.crossbar) b.cycles.items b.ports.items b.arbiter
         × IsCrossbar node_slave IsSound b.crossbar };
 }
 
-impl Bus {
+impl<R: BusRecorder> Bus<R> {
     /// The bus of a description: its devices as they are built, all ports idle, and no entries.
-    pub fn build(alloc: Global, description: &Description) -> Result<Bus, NoMemory>
+    pub fn build(alloc: Global, recorder: R, description: &Description) -> Result<Bus<R>, NoMemory>
+        requires none { (R.journal recorder).entries ≡ [] }
         requires accepted { IsAccepted description.now }
         ensures description { IfOk result (λ b. b.description ≡ description.now) }
         ensures core { IfOk result (λ b. b.core ≡ built_core (fabric_of description.now)) }
@@ -74,7 +75,7 @@ impl Bus {
             cycles,
             ports,
             arbiter: Arbiter::new(masters),
-            journal: Journal::new(alloc),
+            journal: recorder,
             description: Snapshot::of(description),
         })
     }
@@ -133,17 +134,17 @@ impl Bus {
         self.ports[m as usize].answer(i)
     }
 
-    /// How many pairs a port's open cycle has.
-    pub fn opened(&self, m: u8) -> usize
+    /// Whether a port's open cycle has pairs.
+    pub fn is_open(&self, m: u8) -> bool
         requires within { m < self.now.description.masters }
-        ensures opened { result ≡ length (port self.now.core m).opened }
+        ensures is_open { IsTrue result ↔ ((port self.now.core m).opened ≢ []) }
     {
-        self.cycles[m as usize].opened()
+        self.cycles[m as usize].is_open()
     }
 
     /// The entries of the cycles that have ended.
-    pub fn journal(&self) -> &Journal
-        ensures entries { result.now.entries ≡ self.now.core.journal }
+    pub fn journal(&self) -> &R
+        ensures entries { (R.journal result.now).entries ≡ self.now.core.journal }
         ensures kept { IsBus self.now }
     {
         &self.journal
@@ -221,7 +222,7 @@ impl Bus {
 }
 
 /// So many ports that ask for nothing.
-fn idle_cycles(alloc: Global, count: u8) -> Result<Vec<Cycle>, NoMemory>
+fn idle_cycles<P: PairRecorder>(alloc: Global, count: u8) -> Result<Vec<Cycle<P>>, NoMemory>
     ensures states { IfOk result (λ cycles. states cycles.items ≡ resting_ports count) }
 {
     let mut cycles = Vec::new(alloc);
@@ -245,7 +246,7 @@ fn idle_ports(alloc: Global, count: u8, depth: u8) -> Result<Vec<Port>, NoMemory
 }
 
 /// Steps 1 and 2 of a tick: the ports that were released are idle, and the arbiter grants.
-fn grant_all(arbiter: &mut Arbiter, cycles: &mut [Cycle]) -> u32
+fn grant_all<P: PairRecorder>(arbiter: &mut Arbiter, cycles: &mut [Cycle<P>]) -> u32
     requires ports { length cycles.old ≡ arbiter.old.ports }
     requires few { length cycles.old ≤ 16 }
     ensures grant { IsGrant arbiter.old (wanting (states cycles.old)) (held (states cycles.old)) result }
@@ -262,7 +263,7 @@ fn grant_all(arbiter: &mut Arbiter, cycles: &mut [Cycle]) -> u32
 }
 
 /// The sets that the ports wait for.
-fn wants_in(cycles: &[Cycle]) -> [Option<SlaveSet>; 16]
+fn wants_in<P: PairRecorder>(cycles: &[Cycle<P>]) -> [Option<SlaveSet>; 16]
     requires few { length cycles.now ≤ 16 }
     ensures wants { sets_given (take (length cycles.now) result) ≡ sets_wanted (states cycles.now) }
 {
@@ -274,7 +275,7 @@ fn wants_in(cycles: &[Cycle]) -> [Option<SlaveSet>; 16]
 }
 
 /// All slaves that are held.
-fn held_in(cycles: &[Cycle]) -> u128
+fn held_in<P: PairRecorder>(cycles: &[Cycle<P>]) -> u128
     ensures held { result ≡ held (states cycles.now) }
 {
     let mut held = 0;
@@ -285,7 +286,7 @@ fn held_in(cycles: &[Cycle]) -> u128
 }
 
 /// Steps each port to its next phase, by the grant.
-fn step_all(cycles: &mut [Cycle], grant: u32)
+fn step_all<P: PairRecorder>(cycles: &mut [Cycle<P>], grant: u32)
     requires few { length cycles.old ≤ 16 }
     ensures states { states cycles.new ≡ granted_from grant 0 (states cycles.old) }
     ensures rooms { rooms cycles.new ≡ rooms cycles.old }
@@ -296,12 +297,13 @@ fn step_all(cycles: &mut [Cycle], grant: u32)
 }
 
 /// Makes an entry of a cycle that has a pair, for which there is a place.
-fn enter(journal: &mut Journal, master: u8, cut: bool, pairs: Pairs)
-    requires spare { 1 ≤ journal.old.spare }
-    ensures entries { journal.new.entries ≡ made_with master cut journal.old.entries pairs }
-    ensures spare { journal.old.spare ≤ journal.new.spare + 1 }
+fn enter<R: BusRecorder>(journal: &mut R, master: u8, cut: bool, pairs: R::Pairs)
+    requires spare { 1 ≤ (R.journal journal.old).spare }
+    ensures entries { (R.journal journal.new).entries
+        ≡ made_with master cut (R.journal journal.old).entries (R.Pairs.pairs pairs) }
+    ensures spare { (R.journal journal.old).spare ≤ (R.journal journal.new).spare + 1 }
 {
-    if pairs.len() > 0 {
-        journal.push(Entry { master, cut, pairs });
+    if pairs.is_some() {
+        journal.push(master, cut, pairs);
     }
 }

@@ -14,15 +14,16 @@ ghost use Rattle.soc_bus.specs.View.{states};
 ghost use Rattle.soc_bus.specs.Clocked.{driving, driven_rows, has_passed, answer_in, sampled_all, holder_from, holders_from, AreServed, AreOperations};
 
 use crate::cycle::Cycle;
+use crate::recorder::PairRecorder;
 use wb_crossbar::Crossbar;
 use wb_port::Port;
 use wb_signals::{Answer, Op, PortRow};
 use wb_tree::Node;
 
 /// One clock, after the grants: what the ports drive, what the slaves make of it, and what the ports get.
-pub fn clock(
+pub fn clock<P: PairRecorder>(
     crossbar: &mut Crossbar<Node>,
-    cycles: &[Cycle],
+    cycles: &[Cycle<P>],
     ports: &mut Vec<Port>,
     rows: &mut [PortRow],
     slaves: usize,
@@ -52,7 +53,7 @@ pub fn clock(
 }
 
 /// The port that holds each top slave.
-fn hold_all(cycles: &[Cycle], slaves: usize, holders: &mut [Option<u8>])
+fn hold_all<P: PairRecorder>(cycles: &[Cycle<P>], slaves: usize, holders: &mut [Option<u8>])
     requires few { length cycles.now ≤ 16 }
     requires slaves { slaves ≤ length holders.old }
     requires most { slaves ≤ 128 }
@@ -64,7 +65,7 @@ fn hold_all(cycles: &[Cycle], slaves: usize, holders: &mut [Option<u8>])
     }
 }
 
-fn holder_of(cycles: &[Cycle], slave: usize) -> Option<u8>
+fn holder_of<P: PairRecorder>(cycles: &[Cycle<P>], slave: usize) -> Option<u8>
     requires few { length cycles.now ≤ 16 }
     requires below { slave < 128 }
     ensures holder { result ≡ holder_from 0 (states cycles.now) slave }
@@ -112,7 +113,7 @@ fn driving(cyc: bool, op: Option<Op>) -> PortRow
 }
 
 /// What each port drives in this clock.
-fn drive_all(cycles: &[Cycle], ports: &[Port], rows: &mut [PortRow])
+fn drive_all<P: PairRecorder>(cycles: &[Cycle<P>], ports: &[Port], rows: &mut [PortRow])
     requires cycles { length cycles.now ≡ length ports.now }
     requires rows { length rows.old ≡ length ports.now }
     ensures rows { rows.new ≡ driven_rows (states cycles.now) ports.now }

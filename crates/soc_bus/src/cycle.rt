@@ -1,5 +1,5 @@
 //! The cycle of a port.
-ghost use Rattle.std.specs.Prelude.{◌≡◌, ◌≤◌, ◌+◌, ◌-◌, ◌++◌, [], length, OnOk, OnErr, Some, vec_len, vec_capacity};
+ghost use Rattle.std.specs.Prelude.{◌≡◌, ◌≢◌, ◌↔◌, IsTrue, ◌≤◌, ◌+◌, ◌-◌, ◌++◌, [], length, OnOk, OnErr, Some, vec_len, vec_capacity};
 ghost use Rattle.wb_signals.specs.Cycles.{paired};
 ghost use Rattle.soc_core.specs.Core.{Wants, Leaves, resting_port, unloaded, is_idle, is_granted, with_phase, phase_after, wants_of, held_by};
 ghost use Rattle.soc_core.specs.Sound.{is_busy_phase};
@@ -7,22 +7,22 @@ ghost use Rattle.wb_crossbar.specs.Looks.{set_in};
 ghost use Rattle.soc_bus.specs.View.{phase_of};
 
 use crate::phase::Phase;
+use crate::recorder::PairRecorder;
 use eb_base::NoMemory;
-use soc_journal::{Pair, Pairs};
+use soc_journal::Pair;
 use std::alloc::Global;
 use std::marker::Model;
-use std::mem;
 use wb_port::Port;
 use wb_signals::SlaveSet;
 
 /// The cycle of a port: its phase, and the pairs so far.
 #[derive(Drop)]
-pub struct Cycle {
+pub struct Cycle<P: PairRecorder> {
     phase: Phase,
-    opened: Vec<Pair>,
+    opened: P,
 }
 
-impl Model for Cycle {
+impl<P: PairRecorder> Model for Cycle<P> {
     ghost use Rattle.std.specs.Prelude.{◌-◌, vec_len, vec_capacity};
     ghost use Rattle.soc_core.specs.Core.{unloaded};
     ghost use Rattle.soc_bus.specs.View.{CycleView, phase_of};
@@ -30,21 +30,21 @@ impl Model for Cycle {
     ghost Value = { CycleView };
 
     ghost view = { λ c. record {
-      state = unloaded (phase_of c.phase) c.opened.items;
-      room = vec_capacity c.opened - vec_len c.opened;
+      state = unloaded (phase_of c.phase) (P.pairs c.opened);
+      room = P.room c.opened;
     } };
 
     ghost invariant = { λ _. Unit {0} };
 }
 
-impl Cycle {
+impl<P: PairRecorder> Cycle<P> {
     /// A port that asks for nothing. It takes no memory.
-    pub fn new(alloc: Global) -> Cycle
+    pub fn new(alloc: Global) -> Cycle<P>
         ensures idle { result.state ≡ resting_port }
     {
         Cycle {
             phase: Phase::Idle,
-            opened: Vec::new(alloc),
+            opened: P::new(alloc),
         }
     }
 
@@ -89,11 +89,11 @@ impl Cycle {
         }
     }
 
-    /// How many pairs it has.
-    pub fn opened(&self) -> usize
-        ensures opened { result ≡ length self.now.state.opened }
+    /// Whether it has pairs.
+    pub fn is_open(&self) -> bool
+        ensures some { IsTrue result ↔ (self.now.state.opened ≢ []) }
     {
-        self.opened.len()
+        self.opened.is_some()
     }
 
     /// Raises CYC for a set of slaves.
@@ -118,8 +118,7 @@ impl Cycle {
         ensures room { OnOk result (pairs ≤ self.new.room) }
         ensures err_room { OnErr result (self.old.room ≤ self.new.room) }
     {
-        self.opened.reserve(pairs)?;
-        Ok(())
+        self.opened.reserve(pairs)
     }
 
     /// Adds the operations that a port has loaded, with their answers.
@@ -133,13 +132,12 @@ impl Cycle {
     }
 
     /// Releases CYC, and hands out the pairs.
-    pub fn release(&mut self) -> Pairs
+    pub fn release(&mut self) -> P
         ensures state { self.new.state ≡ unloaded Leaves [] }
-        ensures pairs { result ≡ self.old.state.opened }
+        ensures pairs { P.pairs result ≡ self.old.state.opened }
     {
         self.phase = Phase::Leaves;
-        let empty = Vec::new(*self.opened.allocator());
-        Pairs::of(mem::replace(&mut self.opened, empty))
+        self.opened.take()
     }
 }
 
@@ -162,13 +160,13 @@ fn next_phase(phase: Phase, granted: bool) -> Phase
 }
 
 /// Adds the loaded operations of a port, with their answers, to pairs.
-fn pair_up(port: &Port, pairs: &mut Vec<Pair>)
+fn pair_up<P: PairRecorder>(port: &Port, pairs: &mut P)
     requires same { length port.now.answers ≡ length port.now.loaded }
-    requires room { vec_len pairs.old + length port.now.loaded ≤ vec_capacity pairs.old }
-    ensures pairs { pairs.new.items ≡ pairs.old.items ++ paired port.now.loaded port.now.answers }
+    requires room { length port.now.loaded ≤ P.room pairs.old }
+    ensures pairs { P.pairs pairs.new ≡ P.pairs pairs.old ++ paired port.now.loaded port.now.answers }
 {
     for i in 0..port.loaded() {
-        pairs.push_reserved(Pair {
+        pairs.add(Pair {
             op: port.op(i),
             answer: port.answer(i),
         });

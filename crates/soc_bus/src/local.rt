@@ -8,6 +8,7 @@ ghost use Rattle.soc_core.specs.Core.{port, pending};
 ghost use Rattle.soc_bus.specs.Local.{AllIdle, IsOpen, IsReady, IsRecorded, IsLocal, MadeLegal, all_slaves};
 
 use crate::bus::Bus;
+use crate::recorder::BusRecorder;
 use crate::waiting::run_all;
 use eb_base::NoMemory;
 use std::alloc::Global;
@@ -15,7 +16,7 @@ use std::snapshot::Snapshot;
 use wb_signals::{Answer, Master, Op, SlaveSet};
 
 /// Raises CYC of a port for a set, on a bus whose ports are idle, and is granted it.
-fn open_cycle(bus: &mut Bus, m: u8, set: SlaveSet) -> Result<(), NoMemory>
+fn open_cycle<R: BusRecorder>(bus: &mut Bus<R>, m: u8, set: SlaveSet) -> Result<(), NoMemory>
     requires within { m < bus.old.description.masters }
     requires below { set.0 < 2 ^ (fabric_of bus.old.description).slaves }
     requires idle { AllIdle bus.old.core }
@@ -32,7 +33,7 @@ fn open_cycle(bus: &mut Bus, m: u8, set: SlaveSet) -> Result<(), NoMemory>
 }
 
 /// Ends the open cycle, cut or not.
-fn close_cycle(bus: &mut Bus, m: u8, set: SlaveSet, cut: bool)
+fn close_cycle<R: BusRecorder>(bus: &mut Bus<R>, m: u8, set: SlaveSet, cut: bool)
     requires within { m < bus.old.description.masters }
     requires is_open { IsOpen bus.old.core m set.0 }
     ensures idle { AllIdle bus.new.core }
@@ -47,7 +48,7 @@ fn close_cycle(bus: &mut Bus, m: u8, set: SlaveSet, cut: bool)
 }
 
 /// Copies the answers of a port that has all of them.
-fn copy_answers(bus: &Bus, m: u8, count: usize, answers: &mut Vec<Answer>)
+fn copy_answers<R: BusRecorder>(bus: &Bus<R>, m: u8, count: usize, answers: &mut Vec<Answer>)
     requires within { m < bus.now.description.masters }
     requires none_pending { pending (port bus.now.core m) ≡ 0 }
     requires count { count ≡ length (port bus.now.core m).loaded }
@@ -62,8 +63,8 @@ fn copy_answers(bus: &Bus, m: u8, count: usize, answers: &mut Vec<Answer>)
 }
 
 /// Runs operations in the open cycle.
-fn run_in_cycle(
-    bus: &mut Bus,
+fn run_in_cycle<R: BusRecorder>(
+    bus: &mut Bus<R>,
     m: u8,
     set: SlaveSet,
     ops: &[Op],
@@ -95,7 +96,7 @@ fn run_in_cycle(
 }
 
 /// Ends the open cycle with its last record.
-fn end_if(bus: &mut Bus, m: u8, set: SlaveSet, last: bool)
+fn end_if<R: BusRecorder>(bus: &mut Bus<R>, m: u8, set: SlaveSet, last: bool)
     requires within { m < bus.old.description.masters }
     requires is_open { IsOpen bus.old.core m set.0 }
     requires all { last ≡ false → set.0 ≡ all_slaves (fabric_of bus.old.description) }
@@ -112,8 +113,8 @@ fn end_if(bus: &mut Bus, m: u8, set: SlaveSet, last: bool)
 }
 
 /// Runs the first record of a cycle.
-fn first_record(
-    bus: &mut Bus,
+fn first_record<R: BusRecorder>(
+    bus: &mut Bus<R>,
     m: u8,
     ops: &[Op],
     last: bool,
@@ -148,8 +149,8 @@ fn first_record(
 }
 
 /// Runs a later record of a cycle.
-fn later_record(
-    bus: &mut Bus,
+fn later_record<R: BusRecorder>(
+    bus: &mut Bus<R>,
     m: u8,
     ops: &[Op],
     last: bool,
@@ -174,7 +175,7 @@ fn later_record(
 }
 
 /// Ends a cycle by a record without operations.
-fn last_record(bus: &mut Bus, m: u8, answers: &mut Vec<Answer>)
+fn last_record<R: BusRecorder>(bus: &mut Bus<R>, m: u8, answers: &mut Vec<Answer>)
     requires within { m < bus.old.description.masters }
     requires is_open { IsOpen bus.old.core m (all_slaves (fabric_of bus.old.description)) }
     requires opened { (port bus.old.core m).opened ≢ [] }
@@ -187,9 +188,34 @@ fn last_record(bus: &mut Bus, m: u8, answers: &mut Vec<Answer>)
     end_if(bus, m, set, true);
 }
 
+/// Runs a record of an open cycle: a later one, or its last one without operations.
+fn record_open<R: BusRecorder>(
+    bus: &mut Bus<R>,
+    m: u8,
+    ops: &[Op],
+    last: bool,
+    answers: &mut Vec<Answer>,
+) -> Result<(), NoMemory>
+    requires within { m < bus.old.description.masters }
+    requires is_open { IsOpen bus.old.core m (all_slaves (fabric_of bus.old.description)) }
+    requires opened { (port bus.old.core m).opened ≢ [] }
+    requires can { CanRecord W32 (port bus.old.core m).opened ops.now last }
+    ensures ok { OnOk result
+        (IsRecorded (fabric_of bus.old.description) bus.old.core bus.new.core m ops.now answers.new.items last) }
+    ensures err { OnErr result (bus.new.core ≡ bus.old.core) }
+    ensures description { bus.new.description ≡ bus.old.description }
+{
+    if ops.is_empty() {
+        last_record(bus, m, answers);
+        Ok(())
+    } else {
+        later_record(bus, m, ops, last, answers)
+    }
+}
+
 /// Runs a record: the first of a cycle where none is open, else a later one, or its last one without operations.
-fn record_on(
-    bus: &mut Bus,
+fn record_on<R: BusRecorder>(
+    bus: &mut Bus<R>,
     m: u8,
     ops: &[Op],
     last: bool,
@@ -205,18 +231,15 @@ fn record_on(
     ensures err_journal { OnErr result (bus.new.core.journal ≡ bus.old.core.journal) }
     ensures description { bus.new.description ≡ bus.old.description }
 {
-    if bus.opened(m) == 0 {
-        first_record(bus, m, ops, last, answers)
-    } else if ops.is_empty() {
-        last_record(bus, m, answers);
-        Ok(())
+    if bus.is_open(m) {
+        record_open(bus, m, ops, last, answers)
     } else {
-        later_record(bus, m, ops, last, answers)
+        first_record(bus, m, ops, last, answers)
     }
 }
 
 /// Cuts an open cycle.
-fn cut_on(bus: &mut Bus, m: u8)
+fn cut_on<R: BusRecorder>(bus: &mut Bus<R>, m: u8)
     requires within { m < bus.old.description.masters }
     requires ready { IsReady (fabric_of bus.old.description) bus.old.core m }
     requires opened { (port bus.old.core m).opened ≢ [] }
@@ -231,17 +254,17 @@ fn cut_on(bus: &mut Bus, m: u8)
 
 /// One port of a bus whose other ports are idle, as a master.
 #[derive(Drop)]
-pub struct Local<'a> {
-    bus: &'a mut Bus,
+pub struct Local<'a, R: BusRecorder> {
+    bus: &'a mut Bus<R>,
     m: u8,
     answers: Vec<Answer>,
-    began: Snapshot<Bus>,
+    began: Snapshot<Bus<R>>,
     ghost local: { IsLocal began.value bus.now m },
 }
 
-impl<'a> Local<'a> {
+impl<'a, R: BusRecorder> Local<'a, R> {
     /// The port with this number of a bus whose ports are idle. It takes no memory.
-    pub fn new(alloc: Global, bus: &'a mut Bus, m: u8) -> Local<'a>
+    pub fn new(alloc: Global, bus: &'a mut Bus<R>, m: u8) -> Local<'a, R>
         requires within { m < bus.old.description.masters }
         requires idle { AllIdle bus.old.core }
         ensures same_bus { result.bus.ghost_name ≡ bus.entry.ghost_name }
@@ -267,7 +290,7 @@ impl<'a> Local<'a> {
     }
 }
 
-impl<'a> Master for Local<'a> {
+impl<'a, R: BusRecorder> Master for Local<'a, R> {
     ghost use Rattle.eb_base.specs.declared.width.Width.TheVariants.{W32};
     ghost use Rattle.soc_bus.specs.View.{BusState};
     ghost use Rattle.soc_bus.specs.Local.{cycles_since};
@@ -297,6 +320,6 @@ impl<'a> Master for Local<'a> {
     }
 
     fn is_open(&self) -> bool {
-        self.bus.opened(self.m) > 0
+        self.bus.is_open(self.m)
     }
 }

@@ -5,9 +5,10 @@ ghost use Rattle.soc_core.specs.Run.{IsRun};
 ghost use Rattle.soc_bus.specs.View.{IsBus};
 
 use crate::bus::Bus;
+use crate::recorder::BusRecorder;
 
 /// Ticks until a port has all its answers.
-pub fn run_all(bus: &mut Bus, m: u8)
+pub fn run_all<R: BusRecorder>(bus: &mut Bus<R>, m: u8)
     requires within { m < bus.old.description.masters }
     ensures none { pending (port bus.new.core m) ≡ 0 }
     ensures kept { IsBus bus.new }

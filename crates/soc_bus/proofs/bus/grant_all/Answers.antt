@@ -7,7 +7,7 @@ use Rattle.soc_bus.proofs.CycleLists.{wanted_is}
 use Rattle.soc_bus.proofs.bus.grant_all.Goals as goal
 
 pub returns-clause-grant : goal.returns-clause-grant
-returns-clause-grant c =
+returns-clause-grant g c =
     let n : ℕ = length c.args.cycles.now in
     let same : wanted (take n c.wants_in-wants.result) ≡ wanting (states c.args.cycles.now) =
     (λ i m. wanted_is (take n c.wants_in-wants.result) (states c.args.cycles.now) c.wants_in-wants.ensures.wants m i) in

@@ -4,4 +4,4 @@ use Rattle.soc_bus.specs.View.{states}
 use Rattle.soc_bus.proofs.bus.held_in.Given as goal
 
 abbrev pub invariant-loop-cycle : goal.invariant-loop-cycle
-invariant-loop-cycle l = bit_or l.held (held (states (drop l.cycle-index l.cycles))) ≡ held (states l.cycles)
+invariant-loop-cycle g l = bit_or l.held (held (states (drop l.cycle-index l.cycles))) ≡ held (states l.cycles)

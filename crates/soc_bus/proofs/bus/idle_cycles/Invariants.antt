@@ -5,4 +5,4 @@ use Rattle.soc_bus.specs.View.{states}
 use Rattle.soc_bus.proofs.bus.idle_cycles.Given as goal
 
 abbrev pub invariant-loop : goal.invariant-loop
-invariant-loop l = states l.cycles.items ≡ resting_ports l.counter
+invariant-loop g l = states l.cycles.items ≡ resting_ports l.counter

@@ -12,7 +12,7 @@ use Rattle.soc_bus.proofs.ServedLemmas.{can_tick, can_pass, can_answer}
 use Rattle.soc_bus.proofs.clock.clock.Goals as goal
 
 pub tick-requires-clause-can : goal.tick-requires-clause-can
-tick-requires-clause-can c =
+tick-requires-clause-can g c =
     let s = c.args.crossbar.now in
     let parts = parts_of node_slave s.slots.items in
     let cycles = states c.args.cycles.now in
@@ -23,7 +23,7 @@ tick-requires-clause-can c =
     c.requires.served n drove c.drive_all.ensures.operations)
 
 pub sample_all-requires-clause-passes : goal.sample_all-requires-clause-passes
-sample_all-requires-clause-passes c = λ m p row f g.
+sample_all-requires-clause-passes g c = λ m p row f g.
     let x = crossbar_of node_slave c.args.crossbar.now in
     let cycles = states c.args.cycles.now in
     let n : length cycles ≡ length c.args.ports.now.items = length-map c.args.cycles.now (λ (p : CycleView). p.state) ∙ c.requires.cycles in
@@ -32,7 +32,7 @@ sample_all-requires-clause-passes c = λ m p row f g.
     (subst (λ rows. slice_get rows m ≡ Some row) c.tick.ensures.rows g) p f
 
 pub sample_all-requires-clause-answers : goal.sample_all-requires-clause-answers
-sample_all-requires-clause-answers c = λ m p row f g.
+sample_all-requires-clause-answers g c = λ m p row f g.
     let x = crossbar_of node_slave c.args.crossbar.now in
     let cycles = states c.args.cycles.now in
     let n : length cycles ≡ length c.args.ports.now.items = length-map c.args.cycles.now (λ (p : CycleView). p.state) ∙ c.requires.cycles in

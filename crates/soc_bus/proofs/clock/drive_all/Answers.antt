@@ -10,15 +10,15 @@ use Rattle.soc_bus.proofs.CycleLists.{get_state}
 use Rattle.soc_bus.proofs.clock.drive_all.Goals as goal
 
 pub returns-clause-rows : goal.returns-clause-rows
-returns-clause-rows c =
+returns-clause-rows g c =
     let n = length-map c.args.cycles.now (λ (p : CycleView). p.state) in
     driven_all (states c.args.cycles.now) c.args.ports.now c.loop-m.rows c.loop-m.m (omega (arith, n, c.requires.cycles)) (omega (arith, c.loop-m-test.false, c.loop-m.auto.rows)) c.loop-m.invariant
 
 pub returns-clause-operations : goal.returns-clause-operations
-returns-clause-operations c = all_operations (states c.args.cycles.now) c.args.ports.now c.loop-m.rows c.loop-m.m (omega (arith, c.loop-m-test.false, c.loop-m.auto.rows)) c.loop-m.invariant
+returns-clause-operations g c = all_operations (states c.args.cycles.now) c.args.ports.now c.loop-m.rows c.loop-m.m (omega (arith, c.loop-m-test.false, c.loop-m.auto.rows)) c.loop-m.invariant
 
 pub loop-m-preserved : goal.loop-m-preserved
-loop-m-preserved c =
+loop-m-preserved g c =
     let m : c.loop-m.m < length c.args.ports.now = omega (arith, c.loop-m-test.true, c.requires.rows) in
     let in_cycles : c.loop-m.m < length c.args.cycles.now = omega (arith, m, c.requires.cycles) in
     let l : c.loop-m.m < length c.loop-m.rows = omega (arith, c.loop-m-test.true, c.loop-m.auto.rows) in

@@ -6,10 +6,10 @@ use Rattle.soc_bus.proofs.LocalLemmas.{can_release, closed_idle, closed_opened}
 use Rattle.soc_bus.proofs.local.close_cycle.Goals as goal
 
 pub release-requires : goal.release-requires
-release-requires c = record { can = can_release (fabric_of c.args.bus.now.description) c.args.bus.now.core c.args.m c.args.set.0 c.requires.within c.requires.is_open }
+release-requires g c = record { can = can_release (fabric_of c.args.bus.now.description) c.args.bus.now.core c.args.m c.args.set.0 c.requires.within c.requires.is_open }
 
 pub returns-clause-idle : goal.returns-clause-idle
-returns-clause-idle c =
+returns-clause-idle g c =
     let f = fabric_of c.args.bus.now.description in
     let kept = c.journal.ensures.kept in
     let t = subst (λ (d : Description). IsTick (fabric_of d) c.release.new.self.core c.tick.new.self.core) c.release.ensures.description c.tick.ensures.tick in
@@ -17,7 +17,7 @@ returns-clause-idle c =
     (can_release f c.args.bus.now.core c.args.m c.args.set.0 c.requires.within c.requires.is_open) c.release.ensures.released t c.requires.is_open
 
 pub returns-clause-none : goal.returns-clause-none
-returns-clause-none c =
+returns-clause-none g c =
     let f = fabric_of c.args.bus.now.description in
     let kept = c.journal.ensures.kept in
     let t = subst (λ (d : Description). IsTick (fabric_of d) c.release.new.self.core c.tick.new.self.core) c.release.ensures.description c.tick.ensures.tick in

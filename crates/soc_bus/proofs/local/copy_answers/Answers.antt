@@ -5,7 +5,7 @@ use Rattle.soc_bus.proofs.LocalLemmas.{take_get}
 use Rattle.soc_bus.proofs.local.copy_answers.Goals as goal
 
 pub loop-i-preserved : goal.loop-i-preserved
-loop-i-preserved c = record {
+loop-i-preserved g c = record {
   items =
       c.push_reserved.ensures.items ∙ ap (λ (xs : List Answer). xs ++ c.answer.result ∷ []) c.loop-i.invariant.items
       ∙ sym (take_get (port c.args.bus.now.core c.args.m).got c.loop-i.i c.answer.result c.answer.ensures.answer);

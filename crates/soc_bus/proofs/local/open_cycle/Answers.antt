@@ -6,7 +6,7 @@ use Rattle.soc_bus.proofs.LocalLemmas.{can_raise, opened_is, opened_none}
 use Rattle.soc_bus.proofs.local.open_cycle.Goals as goal
 
 pub returns-clause-is_open : goal.returns-clause-is_open
-returns-clause-is_open c =
+returns-clause-is_open g c =
     let f = fabric_of c.args.bus.now.description in
     let kept = c.journal.ensures.kept in
     let t = subst (λ (d : Description). IsTick (fabric_of d) c.raise.new.self.core c.tick.new.self.core) c.in_ok-raise.ensures.description c.tick.ensures.tick in
@@ -14,7 +14,7 @@ returns-clause-is_open c =
     c.in_ok-raise.ensures.ok t c.requires.idle
 
 pub returns-clause-none : goal.returns-clause-none
-returns-clause-none c =
+returns-clause-none g c =
     let f = fabric_of c.args.bus.now.description in
     let kept = c.journal.ensures.kept in
     let t = subst (λ (d : Description). IsTick (fabric_of d) c.raise.new.self.core c.tick.new.self.core) c.in_ok-raise.ensures.description c.tick.ensures.tick in

@@ -9,14 +9,14 @@ use Rattle.soc_bus.proofs.LocalLemmas.{can_load, ran_loaded, ran_got, took_open,
 use Rattle.soc_bus.proofs.local.run_in_cycle.Goals as goal
 
 pub load-requires : goal.load-requires
-load-requires c =
+load-requires g c =
     let f = fabric_of c.args.bus.now.description in
     let kept = c.journal.ensures.kept in
     let can = can_load f c.args.bus.now.core c.args.m c.args.set.0 c.args.ops.now kept.width c.requires.within c.requires.is_open c.requires.go c.requires.fit c.requires.some c.requires.most in
     record { can = can }
 
 pub copy_answers-requires-clause-count : goal.copy_answers-requires-clause-count
-copy_answers-requires-clause-count c =
+copy_answers-requires-clause-count g c =
     let f = fabric_of c.args.bus.now.description in
     let kept = c.journal.ensures.kept in
     let can = can_load f c.args.bus.now.core c.args.m c.args.set.0 c.args.ops.now kept.width c.requires.within c.requires.is_open c.requires.go c.requires.fit c.requires.some c.requires.most in
@@ -24,7 +24,7 @@ copy_answers-requires-clause-count c =
     sym (ap length (ran_loaded f c.args.bus.now.core c.load.new.self.core c.run_all.new.bus.core kept.sound c.args.m c.args.set.0 c.args.ops.now can c.in_ok-load.ensures.ok c.run_all.ensures.run c.run_all.ensures.none now c.requires.is_open))
 
 pub copy_answers-requires-clause-same : goal.copy_answers-requires-clause-same
-copy_answers-requires-clause-same c =
+copy_answers-requires-clause-same g c =
     let f = fabric_of c.args.bus.now.description in
     let kept = c.journal.ensures.kept in
     let can = can_load f c.args.bus.now.core c.args.m c.args.set.0 c.args.ops.now kept.width c.requires.within c.requires.is_open c.requires.go c.requires.fit c.requires.some c.requires.most in
@@ -32,7 +32,7 @@ copy_answers-requires-clause-same c =
     ran_got f c.args.bus.now.core c.load.new.self.core c.run_all.new.bus.core kept.sound c.args.m c.args.set.0 c.args.ops.now can c.in_ok-load.ensures.ok c.run_all.ensures.run c.run_all.ensures.none now c.requires.is_open
 
 pub take-requires : goal.take-requires
-take-requires c =
+take-requires g c =
     record {
       can = record {
         within = subst (λ (d : Description). c.args.m < d.masters) (sym (c.run_all.ensures.description ∙ c.in_ok-load.ensures.description)) c.requires.within;
@@ -41,7 +41,7 @@ take-requires c =
     }
 
 pub returns-clause-is_open : goal.returns-clause-is_open
-returns-clause-is_open c =
+returns-clause-is_open g c =
     let f = fabric_of c.args.bus.now.description in
     let kept = c.journal.ensures.kept in
     let can = can_load f c.args.bus.now.core c.args.m c.args.set.0 c.args.ops.now kept.width c.requires.within c.requires.is_open c.requires.go c.requires.fit c.requires.some c.requires.most in
@@ -49,7 +49,7 @@ returns-clause-is_open c =
     took_open f c.args.bus.now.core c.load.new.self.core c.run_all.new.bus.core kept.sound c.args.m c.args.set.0 c.args.ops.now can c.in_ok-load.ensures.ok c.run_all.ensures.run c.run_all.ensures.none now c.requires.is_open c.take.new.self.core c.take.ensures.taken
 
 pub returns-clause-opened : goal.returns-clause-opened
-returns-clause-opened c =
+returns-clause-opened g c =
     let f = fabric_of c.args.bus.now.description in
     let kept = c.journal.ensures.kept in
     let can = can_load f c.args.bus.now.core c.args.m c.args.set.0 c.args.ops.now kept.width c.requires.within c.requires.is_open c.requires.go c.requires.fit c.requires.some c.requires.most in
@@ -58,7 +58,7 @@ returns-clause-opened c =
     ∙ ap (λ (xs : List Answer). (port c.args.bus.now.core c.args.m).opened ++ paired c.args.ops.now xs) (sym c.copy_answers.ensures.answers)
 
 pub returns-clause-count : goal.returns-clause-count
-returns-clause-count c =
+returns-clause-count g c =
     let f = fabric_of c.args.bus.now.description in
     let kept = c.journal.ensures.kept in
     let can = can_load f c.args.bus.now.core c.args.m c.args.set.0 c.args.ops.now kept.width c.requires.within c.requires.is_open c.requires.go c.requires.fit c.requires.some c.requires.most in
@@ -66,7 +66,7 @@ returns-clause-count c =
     ap length c.copy_answers.ensures.answers ∙ ran_got f c.args.bus.now.core c.load.new.self.core c.run_all.new.bus.core kept.sound c.args.m c.args.set.0 c.args.ops.now can c.in_ok-load.ensures.ok c.run_all.ensures.run c.run_all.ensures.none now c.requires.is_open
 
 pub returns-clause-journal : goal.returns-clause-journal
-returns-clause-journal c =
+returns-clause-journal g c =
     let f = fabric_of c.args.bus.now.description in
     let kept = c.journal.ensures.kept in
     let can = can_load f c.args.bus.now.core c.args.m c.args.set.0 c.args.ops.now kept.width c.requires.within c.requires.is_open c.requires.go c.requires.fit c.requires.some c.requires.most in

@@ -7,10 +7,10 @@ use Rattle.soc_core.proofs.RunLemmas.{run_none, run_more, run_falls}
 use Rattle.soc_bus.proofs.waiting.run_all.Goals as goal
 
 pub waiting-init : goal.waiting-init
-waiting-init c = record { run = run_none c.args.bus.now.core; kept = c.journal.ensures.kept; description = refl }
+waiting-init g c = record { run = run_none c.args.bus.now.core; kept = c.journal.ensures.kept; description = refl }
 
 pub waiting-preserved : goal.waiting-preserved
-waiting-preserved c =
+waiting-preserved g c =
     let b = c.waiting.bus in
     let inv = c.waiting.invariant in
     record {
@@ -20,7 +20,7 @@ waiting-preserved c =
     }
 
 pub waiting-smaller : goal.waiting-smaller
-waiting-smaller c =
+waiting-smaller g c =
     let b = c.waiting.bus in
     let inv = c.waiting.invariant in
     subst (λ (d : Description). ticks_left (fabric_of d) (port c.tick.new.self.core c.args.m) < ticks_left (fabric_of b.description) (port b.core c.args.m)) (sym c.tick.ensures.description)

@@ -7,11 +7,11 @@ use Rattle.soc_core.specs.Run.{IsRun}
 use Rattle.soc_bus.proofs.waiting.run_all.Given as goal
 
 abbrev pub invariant-waiting : goal.invariant-waiting
-invariant-waiting l = record {
+invariant-waiting g l = record {
   run : IsRun l.initial.bus.core l.bus.core;
   kept : IsBus l.bus;
   description : l.bus.description ≡ l.initial.bus.description;
 }
 
 abbrev pub decreases-waiting : goal.decreases-waiting
-decreases-waiting l = ticks_left (fabric_of l.bus.description) (port l.bus.core l.m)
+decreases-waiting g l = ticks_left (fabric_of l.bus.description) (port l.bus.core l.m)

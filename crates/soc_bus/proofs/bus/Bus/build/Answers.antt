@@ -15,28 +15,28 @@ use Rattle.soc_bus.proofs.BuildLemmas.{built_is, built_bus, built_made}
 use Rattle.soc_bus.proofs.bus.Bus.build.Goals as goal
 
 pub new-requires-clause-fits : goal.new-requires-clause-fits
-new-requires-clause-fits c = subst (AllFitIn W32) (sym c.in_ok-slots.ensures.slots) (root_fits c.args.description.now.bus c.requires.accepted.sound)
+new-requires-clause-fits g c = subst (AllFitIn W32) (sym c.in_ok-slots.ensures.slots) (root_fits c.args.description.now.bus c.requires.accepted.sound)
 
 pub new-requires-clause-quiet : goal.new-requires-clause-quiet
-new-requires-clause-quiet c = subst AllQuiet (sym c.in_ok-slots.ensures.slots) (quiet_built (parts_of (root_shown c.args.description.now.bus)))
+new-requires-clause-quiet g c = subst AllQuiet (sym c.in_ok-slots.ensures.slots) (quiet_built (parts_of (root_shown c.args.description.now.bus)))
 
 pub invariant_of-result : goal.invariant_of-result
-invariant_of-result c =
+invariant_of-result g c =
     let d : Description = c.args.description.now in
     let x : CrossbarState = crossbar_of node_slave c.in_ok-crossbar.crossbar in
     let is_x = c.in_ok-crossbar.ensures.crossbar ∙ (λ i. (let y : CrossbarState = record { width = W32; children = map wb.child_of (c.in_ok-slots.ensures.slots i); contents = contents_in (c.in_ok-slots.ensures.slots i); owed = replicate d.masters [] } in y)) in
     let cs = c.in_ok-cycles.cycles.items in
     let ps = c.in_ok-ports.ports.items in (
-      subst (λ (y : Description). IsBus (bus_state y x cs ps c.new-2.result c.new-3.result)) (sym c.of.ensures)
-          (built_bus d c.requires.accepted x cs ps c.new-2.result c.new-3.result is_x c.in_ok-cycles.ensures.states c.in_ok-ports.ensures.ports c.new-2.ensures c.new-3.ensures.empty),
+      subst (λ (y : Description). IsBus (bus_state y x cs ps c.new-2.result (g.R.BusRecorder.journal c.args.recorder))) (sym c.of.ensures)
+          (built_bus d c.requires.accepted x cs ps c.new-2.result (g.R.BusRecorder.journal c.args.recorder) is_x c.in_ok-cycles.ensures.states c.in_ok-ports.ensures.ports c.new-2.ensures c.requires.none),
       subst (λ (y : Description). IsMadeOf y x cs ps c.new-2.result) (sym c.of.ensures)
-          (built_made d c.requires.accepted x cs ps c.new-2.result c.new-3.result is_x c.in_ok-cycles.ensures.states c.in_ok-ports.ensures.ports c.new-2.ensures c.new-3.ensures.empty),
+          (built_made d c.requires.accepted x cs ps c.new-2.result (g.R.BusRecorder.journal c.args.recorder) is_x c.in_ok-cycles.ensures.states c.in_ok-ports.ensures.ports c.new-2.ensures c.requires.none),
       c.in_ok-crossbar.ensures.sound,
     )
 
 pub returns-clause-core : goal.returns-clause-core
-returns-clause-core c =
+returns-clause-core g c =
     let d : Description = c.args.description.now in
     let x : CrossbarState = crossbar_of node_slave c.in_ok-crossbar.crossbar in
     let is_x = c.in_ok-crossbar.ensures.crossbar ∙ (λ i. (let y : CrossbarState = record { width = W32; children = map wb.child_of (c.in_ok-slots.ensures.slots i); contents = contents_in (c.in_ok-slots.ensures.slots i); owed = replicate d.masters [] } in y)) in
-    built_is d c.requires.accepted x c.in_ok-cycles.cycles.items c.in_ok-ports.ports.items c.new-2.result c.new-3.result is_x c.in_ok-cycles.ensures.states c.in_ok-ports.ensures.ports c.new-2.ensures c.new-3.ensures.empty
+    built_is d c.requires.accepted x c.in_ok-cycles.cycles.items c.in_ok-ports.ports.items c.new-2.result (g.R.BusRecorder.journal c.args.recorder) is_x c.in_ok-cycles.ensures.states c.in_ok-ports.ensures.ports c.new-2.ensures c.requires.none

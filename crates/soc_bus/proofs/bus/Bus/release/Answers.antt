@@ -15,24 +15,24 @@ use Rattle.soc_bus.proofs.Adding.{release_adds}
 use Rattle.soc_bus.proofs.bus.Bus.release.Goals as goal
 
 pub invariant_of-self : goal.invariant_of-self
-invariant_of-self c =
+invariant_of-self g c =
     let b = c.self.inside in
     let x : CrossbarState = crossbar_of node_slave b.crossbar in
     let can = subst (λ (s : BusState). CanRelease (fabric_of s.description) s.core c.args.m) (sym c.self.view_is) c.requires.can in
-    let entries = c.enter.ensures.entries ∙ ap (λ (ps : List Pair). made_with c.args.m c.args.cut b.journal.entries ps) c.release-pairs.ensures.pairs in
-    (release_bus b.description.value x b.cycles.items b.ports.items b.arbiter b.journal c.self.invariant.0 c.self.invariant.1 c.args.m c.args.cut c.index_mut.result.now c.release-pairs.new.self c.enter.new.journal can c.index_mut.ensures.value c.release-pairs.ensures.state entries c.enter.ensures.spare, release_made b.description.value x b.cycles.items b.ports.items b.arbiter b.journal c.self.invariant.0 c.self.invariant.1 c.args.m c.args.cut c.index_mut.result.now c.release-pairs.new.self c.enter.new.journal can c.index_mut.ensures.value c.release-pairs.ensures.state entries, c.self.invariant.2)
+    let entries = c.enter.ensures.entries ∙ ap (λ (ps : List Pair). made_with c.args.m c.args.cut (g.R.BusRecorder.journal b.journal).entries ps) c.release-pairs.ensures.pairs in
+    (release_bus b.description.value x b.cycles.items b.ports.items b.arbiter (g.R.BusRecorder.journal b.journal) c.self.invariant.0 c.self.invariant.1 c.args.m c.args.cut c.index_mut.result.now c.release-pairs.new.self (g.R.BusRecorder.journal c.enter.new.journal) can c.index_mut.ensures.value c.release-pairs.ensures.state entries c.enter.ensures.spare, release_made b.description.value x b.cycles.items b.ports.items b.arbiter (g.R.BusRecorder.journal b.journal) c.self.invariant.0 c.self.invariant.1 c.args.m c.args.cut c.index_mut.result.now c.release-pairs.new.self (g.R.BusRecorder.journal c.enter.new.journal) can c.index_mut.ensures.value c.release-pairs.ensures.state entries, c.self.invariant.2)
 
 pub returns-clause-released : goal.returns-clause-released
-returns-clause-released c =
+returns-clause-released g c =
     let b = c.self.inside in
     let x : CrossbarState = crossbar_of node_slave b.crossbar in
     let can = subst (λ (s : BusState). CanRelease (fabric_of s.description) s.core c.args.m) (sym c.self.view_is) c.requires.can in
-    let entries = c.enter.ensures.entries ∙ ap (λ (ps : List Pair). made_with c.args.m c.args.cut b.journal.entries ps) c.release-pairs.ensures.pairs in
-    release_core b.description.value x b.cycles.items b.ports.items b.arbiter b.journal c.self.invariant.0 c.self.invariant.1 c.args.m c.args.cut c.index_mut.result.now c.release-pairs.new.self c.enter.new.journal can c.index_mut.ensures.value c.release-pairs.ensures.state entries
+    let entries = c.enter.ensures.entries ∙ ap (λ (ps : List Pair). made_with c.args.m c.args.cut (g.R.BusRecorder.journal b.journal).entries ps) c.release-pairs.ensures.pairs in
+    release_core b.description.value x b.cycles.items b.ports.items b.arbiter (g.R.BusRecorder.journal b.journal) c.self.invariant.0 c.self.invariant.1 c.args.m c.args.cut c.index_mut.result.now c.release-pairs.new.self (g.R.BusRecorder.journal c.enter.new.journal) can c.index_mut.ensures.value c.release-pairs.ensures.state entries
     ∙ ap (λ (s : BusState). released s.core c.args.m c.args.cut) c.self.view_is
 
 pub returns-clause-adds : goal.returns-clause-adds
-returns-clause-adds c =
+returns-clause-adds g c =
     let b = c.self.inside in
     let x : CrossbarState = crossbar_of node_slave b.crossbar in
-    release_adds c.args.m c.args.cut c.args.self.now (bus_state b.description.value x (set b.cycles.items c.args.m c.release-pairs.new.self) b.ports.items b.arbiter c.enter.new.journal) (returns-clause-released c) (ap (λ (s : BusState). s.description) c.self.view_is)
+    release_adds c.args.m c.args.cut c.args.self.now (bus_state b.description.value x (set b.cycles.items c.args.m c.release-pairs.new.self) b.ports.items b.arbiter (g.R.BusRecorder.journal c.enter.new.journal)) (returns-clause-released g c) (ap (λ (s : BusState). s.description) c.self.view_is)

@@ -8,7 +8,7 @@ use Rattle.soc_bus.specs.View.{BusState}
 use Rattle.soc_bus.proofs.bus.Bus.set_of.Goals as goal
 
 pub returns-then-last : goal.returns-then-last
-returns-then-last c =
+returns-then-last g c =
     let d = c.self.inside.description.value in
     record {
       set =
@@ -18,7 +18,7 @@ returns-then-last c =
     }
 
 pub returns-else-last : goal.returns-else-last
-returns-else-last c =
+returns-else-last g c =
     let d = c.self.inside.description.value in
     record {
       set =

@@ -4,7 +4,7 @@ use Rattle.soc_bus.proofs.LocalLemmas.{record_told, ok_then}
 use Rattle.soc_bus.proofs.local.LocalMaster.record.Goals as goal
 
 pub returns-clause-ran : goal.returns-clause-ran
-returns-clause-ran c =
+returns-clause-ran g c =
     ok_then c.record_on.result
     (record_told c.args.self.now.began.value c.args.self.now.bus.now c.record_on.new.bus c.args.self.now.m (fabric_of c.args.self.now.bus.now.description) c.args.ops.now c.record_on.new.answers.items c.args.last
     c.args.self.now.local.goes_on c.requires.can.some)
