@@ -10,6 +10,7 @@
 //! - `bus`: the bus and its calls
 //! - `clock`: one clock of all ports, after the grants
 //! - `cycle`: the cycle of a port, its phase and its pairs
+//! - `ledgered`: a bus as a value that threads take in turns
 //! - `local`: one port as a master
 //! - `phase`: where a port stands
 //! - `sets`: sets of top slaves
@@ -20,6 +21,7 @@
 mod bus;
 mod clock;
 mod cycle;
+mod ledgered;
 mod local;
 mod phase;
 mod sets;
