@@ -14,6 +14,7 @@
 //! - `clock`: one clock of all ports, after the grants
 //! - `cycle`: the cycle of a port, its phase and its pairs
 //! - `kept`: entries and pairs in memory
+//! - `ledgered`: a bus as a value that threads take in turns
 //! - `local`: one port as a master
 //! - `phase`: where a port stands
 //! - `recorder`: what becomes of the cycles of a bus
@@ -27,6 +28,7 @@ mod bus;
 mod clock;
 mod cycle;
 mod kept;
+mod ledgered;
 mod local;
 mod phase;
 mod recorder;
