@@ -1,8 +1,8 @@
 #!/usr/bin/env bash
 # Times the built program on large captures, a generated load and a large description, and plain.rs on the same, in one run:
 # without a journal of the cycles, as `eb` does it, and with one.
-# Prints for each the best of three runs: seconds, octets of the capture a second, and the greatest memory held, which is
-# never less than what this script itself holds, about 20 MiB.
+# Prints for each the best of three runs: seconds, those of a processor, which other work on the machine changes less, octets
+# of the capture a second, and the greatest memory held, which is never less than what this script itself holds, about 20 MiB.
 # Wants python3, and rustc for plain.rs, which is passed over where there is none.
 set -u
 cd "$(dirname "$0")/.." || exit 1
@@ -62,7 +62,7 @@ with open(described, "w") as file:
 
 
 def measured(command, octets):
-    best, held, outputs = None, 0, None
+    best, spent, held, outputs = None, None, 0, None
     for _ in range(3):
         with open(f"{work}/out", "wb") as out:
             began = time.monotonic()
@@ -71,7 +71,9 @@ def measured(command, octets):
             seconds = time.monotonic() - began
         if status:
             return f"status {os.waitstatus_to_exitcode(status)}", None
+        used = usage.ru_utime + usage.ru_stime
         best = seconds if best is None else min(best, seconds)
+        spent = used if spent is None else min(spent, used)
         held = max(held, usage.ru_maxrss)
     digest = hashlib.sha256()
     with open(f"{work}/out", "rb") as out:
@@ -79,7 +81,7 @@ def measured(command, octets):
             digest.update(piece)
     outputs = digest.digest()
     speed = f"{octets / best / 1e6:9.1f} MB/s" if octets else " " * 14
-    return f"{best:8.3f} s {speed} {held / 1024:8.1f} MiB", outputs
+    return f"{best:8.3f} s {spent:8.3f} s {speed} {held / 1024:8.1f} MiB", outputs
 
 
 runs = [
