@@ -6,6 +6,7 @@ ghost use Rattle.wb_port.specs.Port.{idle_port as idle_engine};
 ghost use Rattle.soc_core.specs.Built.{fabric_of, set_of_cycle};
 ghost use Rattle.wb_signals.specs.Cycles.{made_with};
 ghost use Rattle.soc_core.specs.Core.{Core, port, resting_port, resting_ports, built_core, is_idle, is_granted, pending, raised, loaded, taken, released, granted_from, held, wants_of, CanRaise, CanLoad, CanTake, CanRelease, IsTick};
+ghost use Rattle.soc_bus.specs.Local.{AllIdle};
 ghost use Rattle.soc_bus.specs.Ledger.{AddsOwn, KeepsLedger};
 ghost use Rattle.soc_bus.specs.View.{IsBus, states, rooms, sets_given, sets_wanted, wanting};
 
@@ -64,6 +65,8 @@ impl<R: BusRecorder> Bus<R> {
         requires accepted { IsAccepted description.now }
         ensures description { IfOk result (λ b. b.description ≡ description.now) }
         ensures core { IfOk result (λ b. b.core ≡ built_core (fabric_of description.now)) }
+        ensures idle { IfOk result (λ b. AllIdle b.core) }
+        ensures first { IfOk result (λ b. 1 ≤ b.description.masters) }
     {
         let masters = description.masters;
         let slots = top_slots(alloc, &description.bus)?;

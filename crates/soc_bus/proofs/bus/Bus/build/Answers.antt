@@ -1,5 +1,5 @@
 -- A bus as it is built keeps what each call keeps.
-use Rattle.std.proofs.Common.{map, sym, ◌∙◌, subst, replicate, []}
+use Rattle.std.proofs.Common.{◌≡◌, ℕ, refl, map, sym, ◌∙◌, subst, replicate, []}
 use Rattle.eb_base.specs.declared.width.Width.TheVariants.{W32}
 use Rattle.soc_desc.specs.declared.description.Description.{Description}
 use Rattle.wb_signals.specs.Parts as wb
@@ -8,10 +8,14 @@ use Rattle.wb_tree.specs.Tree.{node_slave}
 use Rattle.wb_crossbar.specs.Inside.{crossbar_of}
 use Rattle.wb_crossbar.specs.Crossbar.{CrossbarState}
 use Rattle.soc_machine.specs.Described.{parts_of}
-use Rattle.soc_core.specs.Built.{root_shown}
+use Rattle.soc_core.specs.Built.{root_shown, fabric_of}
 use Rattle.soc_bus.specs.View.{IsBus, IsMadeOf, bus_state}
 use Rattle.soc_bus.proofs.TreeLemmas.{root_fits, quiet_built}
 use Rattle.soc_bus.proofs.BuildLemmas.{built_is, built_bus, built_made}
+use Rattle.soc_core.specs.Core.{Idle, CorePort}
+use Rattle.soc_core.proofs.Ticks.{each_idle}
+use Rattle.soc_core.proofs.BuiltLemmas.{described_fabric}
+use Rattle.soc_bus.specs.Local.{AllIdle}
 use Rattle.soc_bus.proofs.bus.Bus.build.Goals as goal
 
 pub new-requires-clause-fits : goal.new-requires-clause-fits
@@ -40,3 +44,9 @@ returns-clause-core g c =
     let x : CrossbarState = crossbar_of node_slave c.in_ok-crossbar.crossbar in
     let is_x = c.in_ok-crossbar.ensures.crossbar ∙ (λ i. (let y : CrossbarState = record { width = W32; children = map wb.child_of (c.in_ok-slots.ensures.slots i); contents = contents_in (c.in_ok-slots.ensures.slots i); owed = replicate d.masters [] } in y)) in
     built_is d c.requires.accepted x c.in_ok-cycles.cycles.items c.in_ok-ports.ports.items c.new-2.result (g.R.BusRecorder.journal c.args.recorder) is_x c.in_ok-cycles.ensures.states c.in_ok-ports.ensures.ports c.new-2.ensures c.requires.none
+
+pub returns-clause-idle : goal.returns-clause-idle
+returns-clause-idle g c =
+    let d : Description = c.args.description.now in
+    subst AllIdle (sym (returns-clause-core g c))
+    (λ (n : ℕ). each_idle (fabric_of d) (described_fabric d c.requires.accepted.masters_least c.requires.accepted.depth_least) (λ (p : CorePort). p.phase ≡ Idle) refl n)
