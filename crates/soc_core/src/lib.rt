@@ -2,9 +2,9 @@
 //!
 //! A core has for each port where it stands, the pairs of its open cycle, the operations that it has loaded, and the
 //! answers that it got and is owed; and it has what the places of the bus hold, the port that the arbiter looks at
-//! first, and the journal. Its events are that a port raises CYC for a set of slaves, is loaded with operations, has its
-//! answers taken, or releases CYC, and that the bus makes a tick. No code here runs a bus: the crate of the bus makes
-//! each of its calls exactly one event.
+//! first, and the journal. Its events are that a port raises CYC for a set of slaves, is loaded with operations, has
+//! its answers taken, or releases CYC, and that the bus makes a tick. No code here runs a bus: the crate of the bus
+//! makes each of its calls exactly one event.
 //!
 //! A core is sound as it is built, and each event keeps it so: the journal is a legal history; held sets are disjoint;
 //! places hold what the operations that ran make of them; the answers of an open cycle are those of the whole cycle;

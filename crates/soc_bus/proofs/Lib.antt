@@ -1,0 +1,12 @@
+pub mod RowLemmas
+pub mod ServedLemmas
+pub mod CycleLists
+pub mod Joined
+pub mod Holders
+pub mod Serving
+pub mod BusLemmas
+pub mod TreeLemmas
+pub mod BuildLemmas
+pub mod AskedLemmas
+pub mod LocalLemmas
+pub mod Adding

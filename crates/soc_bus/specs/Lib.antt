@@ -1,0 +1,5 @@
+pub mod View
+pub mod Clocked
+pub mod Tree
+pub mod Local
+pub mod Ledger

@@ -1,0 +1,307 @@
+//! The bus.
+ghost use Rattle.std.specs.Prelude.{◌≡◌, ◌≤◌, ◌<◌, ◌^◌, ◌+◌, ℕ, length, take, replicate, [], false, IfOk, OnOk, OnErr, Some, slice_get};
+ghost use Rattle.soc_desc.specs.Accepted.{IsAccepted};
+ghost use Rattle.wb_crossbar.specs.Grant.{IsGrant, IsNext};
+ghost use Rattle.wb_port.specs.Port.{idle_port as idle_engine};
+ghost use Rattle.soc_core.specs.Built.{fabric_of, set_of_cycle};
+ghost use Rattle.wb_signals.specs.Cycles.{made_with};
+ghost use Rattle.soc_core.specs.Core.{Core, port, resting_port, resting_ports, built_core, is_idle, is_granted, pending, raised, loaded, taken, released, granted_from, held, wants_of, CanRaise, CanLoad, CanTake, CanRelease, IsTick};
+ghost use Rattle.soc_bus.specs.Ledger.{AddsOwn, KeepsLedger};
+ghost use Rattle.soc_bus.specs.View.{IsBus, states, rooms, sets_given, sets_wanted, wanting};
+
+use crate::clock::clock;
+use crate::cycle::Cycle;
+use crate::sets::{all_of, asked};
+use crate::tree::top_slots;
+use eb_base::{NoMemory, Width};
+use soc_desc::Description;
+use soc_journal::{Entry, Journal, Pairs};
+use std::alloc::Global;
+use std::marker::Model;
+use std::snapshot::Snapshot;
+use wb_crossbar::{Arbiter, Crossbar};
+use wb_port::Port;
+use wb_signals::{Answer, Op, PortRow, SlaveSet};
+use wb_tree::Node;
+
+/// A bus with many ports, clock by clock.
+#[derive(Drop)]
+pub struct Bus {
+    crossbar: Crossbar<Node>,
+    cycles: Vec<Cycle>,
+    ports: Vec<Port>,
+    arbiter: Arbiter,
+    journal: Journal,
+    description: Snapshot<Description>,
+}
+
+impl Model for Bus {
+    ghost use Rattle.std.specs.Coded.{codes};
+    ghost use Rattle.soc_desc.specs.contracts.description.ItemDescription as item;
+    ghost use Rattle.wb_tree.specs.Tree.{node_slave, IsSound};
+    ghost use Rattle.wb_crossbar.specs.Inside.{crossbar_of, IsCrossbar};
+    ghost use Rattle.soc_bus.specs.View.{BusState, IsBus, IsMadeOf, bus_state};
+
+    ghost Value = { BusState };
+
+    ghost coded = { Prim.hlevel (codes, item.the_row.coded) };
+
+    ghost view = { λ b.
+        bus_state b.description.value (crossbar_of node_slave b.crossbar) b.cycles.items b.ports.items b.arbiter
+        b.journal };
+
+    ghost invariant = { λ b.
+        IsBus (bus_state b.description.value (crossbar_of node_slave b.crossbar) b.cycles.items b.ports.items b.arbiter
+        b.journal)
+        × IsMadeOf b.description.value (crossbar_of node_slave b.crossbar) b.cycles.items b.ports.items b.arbiter
+        × IsCrossbar node_slave IsSound b.crossbar };
+}
+
+impl Bus {
+    /// The bus of a description: its devices as they are built, all ports idle, and no entries.
+    pub fn build(alloc: Global, description: &Description) -> Result<Bus, NoMemory>
+        requires accepted { IsAccepted description.now }
+        ensures description { IfOk result (λ b. b.description ≡ description.now) }
+        ensures core { IfOk result (λ b. b.core ≡ built_core (fabric_of description.now)) }
+    {
+        let masters = description.masters;
+        let slots = top_slots(alloc, &description.bus)?;
+        let crossbar = Crossbar::new(alloc, slots, masters, Width::W32)?;
+        let cycles = idle_cycles(alloc, masters)?;
+        let ports = idle_ports(alloc, masters, description.depth)?;
+        Ok(Bus {
+            crossbar,
+            cycles,
+            ports,
+            arbiter: Arbiter::new(masters),
+            journal: Journal::new(alloc),
+            description: Snapshot::of(description),
+        })
+    }
+
+    /// The slaves that a cycle holds whose opening record has these operations: those that it asks for where it also
+    /// ends the cycle, else all top slaves.
+    pub fn set_of(&self, ops: &[Op], last: bool) -> SlaveSet
+        ensures set { result.0 ≡ set_of_cycle (fabric_of self.now.description) ops.now last }
+    {
+        let slaves = self.crossbar.slaves();
+        if last {
+            SlaveSet(asked(&self.crossbar, ops))
+        } else {
+            SlaveSet(all_of(slaves))
+        }
+    }
+
+    /// All top slaves.
+    pub fn all_slaves(&self) -> SlaveSet
+        ensures all { result.0 ≡ set_of_cycle (fabric_of self.now.description) [] false }
+    {
+        SlaveSet(all_of(self.crossbar.slaves()))
+    }
+
+    /// Whether a port asks for nothing.
+    pub fn idle(&self, m: u8) -> bool
+        requires within { m < self.now.description.masters }
+        ensures idle { result ≡ is_idle (port self.now.core m).phase }
+    {
+        self.cycles[m as usize].is_idle()
+    }
+
+    /// Whether a port holds its set.
+    pub fn granted(&self, m: u8) -> bool
+        requires within { m < self.now.description.masters }
+        ensures granted { result ≡ is_granted (port self.now.core m).phase }
+    {
+        self.cycles[m as usize].is_granted()
+    }
+
+    /// How many of a port's loaded operations have no answer.
+    pub fn pending(&self, m: u8) -> usize
+        requires within { m < self.now.description.masters }
+        ensures pending { result ≡ pending (port self.now.core m) }
+    {
+        self.ports[m as usize].pending()
+    }
+
+    /// The answer to a loaded operation of a port that has all its answers.
+    pub fn answer(&self, m: u8, i: usize) -> Answer
+        requires within { m < self.now.description.masters }
+        requires none_pending { pending (port self.now.core m) ≡ 0 }
+        requires below { i < length (port self.now.core m).loaded }
+        ensures answer { slice_get (port self.now.core m).got i ≡ Some result }
+    {
+        self.ports[m as usize].answer(i)
+    }
+
+    /// How many pairs a port's open cycle has.
+    pub fn opened(&self, m: u8) -> usize
+        requires within { m < self.now.description.masters }
+        ensures opened { result ≡ length (port self.now.core m).opened }
+    {
+        self.cycles[m as usize].opened()
+    }
+
+    /// The entries of the cycles that have ended.
+    pub fn journal(&self) -> &Journal
+        ensures entries { result.now.entries ≡ self.now.core.journal }
+        ensures kept { IsBus self.now }
+    {
+        &self.journal
+    }
+
+    /// Raises CYC of an idle port for a set of slaves. Where memory is refused, all is as before.
+    pub fn raise(&mut self, m: u8, set: SlaveSet) -> Result<(), NoMemory>
+        requires can { CanRaise (fabric_of self.old.description) self.old.core m set.0 }
+        ensures adds { AddsOwn m self.old self.new }
+        ensures ok { OnOk result (self.new.core ≡ raised self.old.core m set.0) }
+        ensures err { OnErr result (self.new.core ≡ self.old.core) }
+        ensures description { self.new.description ≡ self.old.description }
+    {
+        self.journal.reserve(self.cycles.len())?;
+        self.cycles[m as usize].raise(set);
+        Ok(())
+    }
+
+    /// Gives a port that holds its set operations to send. Where memory is refused, all is as before.
+    pub fn load(&mut self, m: u8, ops: &[Op]) -> Result<(), NoMemory>
+        requires can { CanLoad (fabric_of self.old.description) self.old.core m ops.now }
+        ensures adds { AddsOwn m self.old self.new }
+        ensures ok { OnOk result (self.new.core ≡ loaded self.old.core m ops.now) }
+        ensures err { OnErr result (self.new.core ≡ self.old.core) }
+        ensures description { self.new.description ≡ self.old.description }
+    {
+        self.cycles[m as usize].reserve(ops.len())?;
+        self.ports[m as usize].load(ops);
+        Ok(())
+    }
+
+    /// Adds a port's loaded operations, which have all their answers, to its open cycle.
+    pub fn take(&mut self, m: u8)
+        requires can { CanTake (fabric_of self.old.description) self.old.core m }
+        ensures adds { AddsOwn m self.old self.new }
+        ensures taken { self.new.core ≡ taken self.old.core m }
+        ensures description { self.new.description ≡ self.old.description }
+    {
+        self.cycles[m as usize].take(&self.ports[m as usize]);
+        self.ports[m as usize].clear();
+    }
+
+    /// Releases CYC of a port. A cycle with a pair is an entry of the journal.
+    pub fn release(&mut self, m: u8, cut: bool)
+        requires can { CanRelease (fabric_of self.old.description) self.old.core m }
+        ensures adds { AddsOwn m self.old self.new }
+        ensures released { self.new.core ≡ released self.old.core m cut }
+        ensures description { self.new.description ≡ self.old.description }
+    {
+        let pairs = self.cycles[m as usize].release();
+        enter(&mut self.journal, m, cut, pairs);
+    }
+
+    /// One tick. The ports that wait are granted by the arbiter's rule. Then each port that holds its set drives its
+    /// next operation, the crossbar passes what isn't stalled, and each port gets the answer that is due.
+    pub fn tick(&mut self)
+        ensures keeps { KeepsLedger self.old self.new }
+        ensures tick { IsTick (fabric_of self.old.description) self.old.core self.new.core }
+        ensures description { self.new.description ≡ self.old.description }
+    {
+        let _grant = grant_all(&mut self.arbiter, &mut self.cycles);
+        let ports = self.ports.len();
+        let slaves = self.crossbar.slaves();
+        let mut rows = [PortRow::none(); 16];
+        let mut holders = [None; 128];
+        clock(
+            &mut self.crossbar,
+            &self.cycles,
+            &mut self.ports,
+            &mut rows[..ports],
+            slaves,
+            &mut holders,
+        );
+    }
+}
+
+/// So many ports that ask for nothing.
+fn idle_cycles(alloc: Global, count: u8) -> Result<Vec<Cycle>, NoMemory>
+    ensures states { IfOk result (λ cycles. states cycles.items ≡ resting_ports count) }
+{
+    let mut cycles = Vec::new(alloc);
+    for _ in 0..count {
+        cycles.push(Cycle::new(alloc))?;
+    }
+    Ok(cycles)
+}
+
+/// So many engines of this depth with nothing loaded.
+fn idle_ports(alloc: Global, count: u8, depth: u8) -> Result<Vec<Port>, NoMemory>
+    requires some { 1 ≤ depth }
+    requires deep { depth ≤ 16 }
+    ensures ports { IfOk result (λ ports. ports.items ≡ replicate count (idle_engine depth)) }
+{
+    let mut ports = Vec::new(alloc);
+    for _ in 0..count {
+        ports.push(Port::new(alloc, depth)?)?;
+    }
+    Ok(ports)
+}
+
+/// Steps 1 and 2 of a tick: the ports that were released are idle, and the arbiter grants.
+fn grant_all(arbiter: &mut Arbiter, cycles: &mut [Cycle]) -> u32
+    requires ports { length cycles.old ≡ arbiter.old.ports }
+    requires few { length cycles.old ≤ 16 }
+    ensures grant { IsGrant arbiter.old (wanting (states cycles.old)) (held (states cycles.old)) result }
+    ensures next { IsNext arbiter.old result arbiter.new.first }
+    ensures ports { arbiter.new.ports ≡ arbiter.old.ports }
+    ensures states { states cycles.new ≡ granted_from result 0 (states cycles.old) }
+    ensures rooms { rooms cycles.new ≡ rooms cycles.old }
+{
+    let wants = wants_in(cycles);
+    let held = SlaveSet(held_in(cycles));
+    let grant = arbiter.step(&wants[..cycles.len()], held);
+    step_all(cycles, grant);
+    grant
+}
+
+/// The sets that the ports wait for.
+fn wants_in(cycles: &[Cycle]) -> [Option<SlaveSet>; 16]
+    requires few { length cycles.now ≤ 16 }
+    ensures wants { sets_given (take (length cycles.now) result) ≡ sets_wanted (states cycles.now) }
+{
+    let mut wants = [None; 16];
+    for i in 0..cycles.len() {
+        wants[i] = cycles[i].wants();
+    }
+    wants
+}
+
+/// All slaves that are held.
+fn held_in(cycles: &[Cycle]) -> u128
+    ensures held { result ≡ held (states cycles.now) }
+{
+    let mut held = 0;
+    for cycle in cycles {
+        held |= cycle.held();
+    }
+    held
+}
+
+/// Steps each port to its next phase, by the grant.
+fn step_all(cycles: &mut [Cycle], grant: u32)
+    requires few { length cycles.old ≤ 16 }
+    ensures states { states cycles.new ≡ granted_from grant 0 (states cycles.old) }
+    ensures rooms { rooms cycles.new ≡ rooms cycles.old }
+{
+    for i in 0..cycles.len() {
+        cycles[i].step((grant >> i) & 1 == 1);
+    }
+}
+
+/// Makes an entry of a cycle that has a pair, for which there is a place.
+fn enter(journal: &mut Journal, master: u8, cut: bool, pairs: Pairs)
+    requires spare { 1 ≤ journal.old.spare }
+    ensures entries { journal.new.entries ≡ made_with master cut journal.old.entries pairs }
+    ensures spare { journal.old.spare ≤ journal.new.spare + 1 }
+{
+    if pairs.len() > 0 {
+        journal.push(Entry { master, cut, pairs });
+    }
+}

@@ -1,0 +1,159 @@
+//! One clock of all ports.
+ghost use Rattle.std.specs.Prelude.{◌≡◌, ◌≢◌, ◌≤◌, ◌<◌, ◌==◌, ℕ, Some, None, true, length, slice_get, take};
+ghost use Rattle.std.specs.Int.{bit_at};
+ghost use Rattle.std.specs.Option.{is_some};
+ghost use Rattle.wb_signals.specs.Request.{Request, IsRequest};
+ghost use Rattle.wb_signals.specs.Rows.{asked};
+ghost use Rattle.wb_signals.specs.declared.port_row.PortRow.{PortRow};
+ghost use Rattle.wb_port.specs.Port.{PortState, driven, sampled};
+ghost use Rattle.wb_tree.specs.Tree.{node_slave, IsSound};
+ghost use Rattle.wb_crossbar.specs.Crossbar.{wiring_of, rows_after, after_tick};
+ghost use Rattle.wb_crossbar.specs.Inside.{crossbar_of, IsCrossbar};
+ghost use Rattle.soc_core.specs.Core.{held_by};
+ghost use Rattle.soc_bus.specs.View.{states};
+ghost use Rattle.soc_bus.specs.Clocked.{driving, driven_rows, has_passed, answer_in, sampled_all, holder_from, holders_from, AreServed, AreOperations};
+
+use crate::cycle::Cycle;
+use wb_crossbar::Crossbar;
+use wb_port::Port;
+use wb_signals::{Answer, Op, PortRow};
+use wb_tree::Node;
+
+/// One clock, after the grants: what the ports drive, what the slaves make of it, and what the ports get.
+pub fn clock(
+    crossbar: &mut Crossbar<Node>,
+    cycles: &[Cycle],
+    ports: &mut Vec<Port>,
+    rows: &mut [PortRow],
+    slaves: usize,
+    holders: &mut [Option<u8>],
+)
+    requires sound { IsCrossbar node_slave IsSound crossbar.old }
+    requires served { AreServed (crossbar_of node_slave crossbar.old)
+        (holders_from (states cycles.now) 0 slaves) ports.old.items }
+    requires cycles { length cycles.now ≡ length ports.old.items }
+    requires rows { length rows.old ≡ length ports.old.items }
+    requires few { length cycles.now ≤ 16 }
+    requires slaves { slaves ≤ length holders.old }
+    requires most { slaves ≤ 128 }
+    ensures rows { rows.new ≡ rows_after (wiring_of (crossbar_of node_slave crossbar.old))
+        (crossbar_of node_slave crossbar.old).owed (driven_rows (states cycles.now) ports.old.items) }
+    ensures holders { take slaves holders.new ≡ holders_from (states cycles.now) 0 slaves }
+    ensures length { length holders.new ≡ length holders.old }
+    ensures crossbar { crossbar_of node_slave crossbar.new
+        ≡ after_tick (crossbar_of node_slave crossbar.old) (driven_rows (states cycles.now) ports.old.items) }
+    ensures sound { IsCrossbar node_slave IsSound crossbar.new }
+    ensures ports { ports.new.items ≡ sampled_all ports.old.items rows.new }
+{
+    hold_all(cycles, slaves, holders);
+    drive_all(cycles, ports, rows);
+    crossbar.tick(rows, &holders[..slaves]);
+    sample_all(ports, rows);
+}
+
+/// The port that holds each top slave.
+fn hold_all(cycles: &[Cycle], slaves: usize, holders: &mut [Option<u8>])
+    requires few { length cycles.now ≤ 16 }
+    requires slaves { slaves ≤ length holders.old }
+    requires most { slaves ≤ 128 }
+    ensures holders { take slaves holders.new ≡ holders_from (states cycles.now) 0 slaves }
+    ensures length { length holders.new ≡ length holders.old }
+{
+    for i in 0..slaves {
+        holders[i] = holder_of(cycles, i);
+    }
+}
+
+fn holder_of(cycles: &[Cycle], slave: usize) -> Option<u8>
+    requires few { length cycles.now ≤ 16 }
+    requires below { slave < 128 }
+    ensures holder { result ≡ holder_from 0 (states cycles.now) slave }
+{
+    for m in 0..cycles.len() {
+        if has(cycles[m].held(), slave) {
+            return Some(m as u8);
+        }
+    }
+    None
+}
+
+/// Whether a slave is in a set.
+fn has(set: u128, slave: usize) -> bool
+    requires below { slave < 128 }
+    ensures has { result ≡ (bit_at set slave == 1) }
+{
+    (set >> slave) & 1 == 1
+}
+
+/// The row of a port that drives this operation, or none.
+fn driving(cyc: bool, op: Option<Op>) -> PortRow
+    ensures row { result ≡ driving cyc op }
+    ensures operation { (r : Request) → asked result ≡ Some r → IsRequest r }
+{
+    match op {
+        Some(op) => PortRow {
+            cyc,
+            stb: true,
+            we: op.write,
+            adr: op.adr,
+            dat: op.dat,
+            sel: op.sel,
+            stall: false,
+            ack: false,
+            err: false,
+            rty: false,
+            read: 0,
+        },
+        None => PortRow {
+            cyc,
+            ..PortRow::none()
+        },
+    }
+}
+
+/// What each port drives in this clock.
+fn drive_all(cycles: &[Cycle], ports: &[Port], rows: &mut [PortRow])
+    requires cycles { length cycles.now ≡ length ports.now }
+    requires rows { length rows.old ≡ length ports.now }
+    ensures rows { rows.new ≡ driven_rows (states cycles.now) ports.now }
+    ensures operations { AreOperations rows.new }
+{
+    for m in 0..rows.len() {
+        rows[m] = driving(cycles[m].is_busy(), ports[m].drive());
+    }
+}
+
+fn answer_in(row: &PortRow) -> Option<Answer>
+    ensures answer { result ≡ answer_in row.now }
+{
+    if row.ack {
+        Some(Answer::Ack(row.read))
+    } else if row.err {
+        Some(Answer::Err)
+    } else if row.rty {
+        Some(Answer::Rty)
+    } else {
+        None
+    }
+}
+
+fn has_passed(row: &PortRow) -> bool
+    ensures passed { result ≡ has_passed row.now }
+{
+    row.stb && !row.stall
+}
+
+/// What each port gets in this clock.
+fn sample_all(ports: &mut Vec<Port>, rows: &[PortRow])
+    requires rows { length rows.now ≡ length ports.old.items }
+    requires passes { (m : ℕ) (p : PortState) (row : PortRow) → slice_get ports.old.items m ≡ Some p
+        → slice_get rows.now m ≡ Some row → has_passed row ≡ true → driven p ≢ None }
+    requires answers { (m : ℕ) (p : PortState) (row : PortRow) → slice_get ports.old.items m ≡ Some p
+        → slice_get rows.now m ≡ Some row → is_some (answer_in row) ≡ true → length p.answers < p.passed }
+    ensures ports { ports.new.items ≡ sampled_all ports.old.items rows.now }
+{
+    for m in 0..ports.len() {
+        let row = &rows[m];
+        ports[m].sample(has_passed(row), answer_in(row));
+    }
+}

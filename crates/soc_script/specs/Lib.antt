@@ -1,0 +1,7 @@
+pub mod Digits
+pub mod Words
+pub mod Script
+pub mod Reading
+pub mod Laws
+pub mod Spelling
+pub mod Cycles
