@@ -6,7 +6,9 @@ use Rattle.std.proofs.lemmas.Nat.Bits.{bit_at_or, bit_at-lt, bit_at-pow_same, bi
 use Rattle.wb_signals.specs.Request.{Request}
 use Rattle.soc_core.specs.Fabric.{Fabric, IsFabric, AllGoIn, IsIn}
 use Rattle.soc_core.specs.Built.{one_slave, slaves_asked, set_of_cycle}
-use Rattle.soc_script_wave.specs.Script.{ScriptLine, ScriptCycle, set_of_lines, set_at}
+use Rattle.soc_script.specs.Script.{ScriptLine}
+use Rattle.soc_script.specs.Cycles.{ScriptCycle}
+use Rattle.soc_script_wave.specs.Sets.{set_of_lines, set_at}
 use Rattle.soc_script_wave.specs.ScriptWave.{lines_at}
 use Rattle.soc_script_wave.proofs.ScriptCycles.{EndsAs}
 

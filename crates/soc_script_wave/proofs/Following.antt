@@ -12,7 +12,9 @@ use Rattle.soc_wave.specs.Rows.{last_port}
 use Rattle.soc_wave.specs.Requests.{one_if, waiting_count}
 use Rattle.soc_wave.specs.Pairs.{Exchange, exchange}
 use Rattle.soc_wave.specs.Arbitration.{Course, Off, Waiting, Holding}
-use Rattle.soc_script_wave.specs.Script.{ScriptLine, ScriptCycle, all_ops, set_at}
+use Rattle.soc_script.specs.Script.{ScriptLine}
+use Rattle.soc_script.specs.Cycles.{ScriptCycle, ops_of_lines}
+use Rattle.soc_script_wave.specs.Sets.{set_at}
 use Rattle.soc_script_wave.specs.ScriptWave.{begun, lines_at, may_begin, later_loads, loads_if, first_load, next_of, next_offer, request_on}
 use Rattle.soc_script_wave.specs.Runner.{is_nil, is_released}
 use Rattle.soc_wave.specs.Shown.{signals}
@@ -72,7 +74,7 @@ pub record RunsLine (f : Fabric) (t : ℕ) (cycles : List ScriptCycle) (ps : Lis
   pub named : set ≡ set_at f cycles n
   pub lines : lines_at cycles n ≡ done ++ h ∷ rest
   pub todo_is : todo ≡ h ∷ rest ++ lines_from cycles (suc n)
-  pub opened : requests_of p.opened ≡ all_ops done
+  pub opened : requests_of p.opened ≡ ops_of_lines done
   pub come : AllCome t done
   pub first : done ≡ [] → h.clock ≤ t
   pub loaded : (p.loaded ≡ []) ⊎ ((p.loaded ≡ h.ops) × (h.clock ≤ t))
@@ -86,8 +88,8 @@ pub record HasEnded (cycles : List ScriptCycle) (ps : List PortRow) (todo : List
   pub below : n < length cycles
   pub up : (last_port ps).cyc ≡ true
   pub todo_is : todo ≡ lines_from cycles (suc n)
-  pub answers : length (exchange ps).answers ≡ length (all_ops (lines_at cycles n))
-  pub requests : length (exchange ps).requests ≡ length (all_ops (lines_at cycles n))
+  pub answers : length (exchange ps).answers ≡ length (ops_of_lines (lines_at cycles n))
+  pub requests : length (exchange ps).requests ≡ length (ops_of_lines (lines_at cycles n))
 
 -- after a tick, t rows being there
 abbrev pub FollowsAs : Fabric → ℕ → List ScriptCycle → List PortRow → CorePort → List ScriptLine → Phase → Type 0
@@ -143,9 +145,9 @@ length-answers : (pairs : List Pair) → length (answers_of pairs) ≡ length (r
 length-answers [] = refl
 length-answers (p ∷ pairs) = ap (λ (n : ℕ). suc n) (length-answers pairs)
 
-some_ops : (lines : List ScriptLine) (t : ℕ) → may_begin t lines ≡ true → AllSome lines → 1 ≤ length (all_ops lines)
+some_ops : (lines : List ScriptLine) (t : ℕ) → may_begin t lines ≡ true → AllSome lines → 1 ≤ length (ops_of_lines lines)
 some_ops [] t came some = absurd (false_true came)
-some_ops (l ∷ lines) t came some = omega (arith, some.0, length-append l.ops (all_ops lines))
+some_ops (l ∷ lines) t came some = omega (arith, some.0, length-append l.ops (ops_of_lines lines))
 
 fewer_by : (t : ℕ) (p : CorePort) (h : ScriptLine) → IsAtWork t p h → (f : Fabric) → IsQueue f p → (answers d all : ℕ) → 1 ≤ length h.ops → answers ≡ d + length p.got → d + length h.ops ≤ all → answers < all
 fewer_by t p h (inl idle) f queue answers d all some is le =
@@ -156,14 +158,14 @@ fewer_by t p h (inr busy) f queue answers d all some is le =
     omega (arith, same, busy.2, is, le)
 
 -- the answers that a cycle at work has got are fewer than its operations
-at_work_fewer : (t : ℕ) (p : CorePort) (done : List ScriptLine) (h : ScriptLine) (rest : List ScriptLine) (f : Fabric) → IsQueue f p → requests_of p.opened ≡ all_ops done → IsAtWork t p h → 1 ≤ length h.ops
-    → length (answers_of p.opened ++ p.got) < length (all_ops (done ++ h ∷ rest))
+at_work_fewer : (t : ℕ) (p : CorePort) (done : List ScriptLine) (h : ScriptLine) (rest : List ScriptLine) (f : Fabric) → IsQueue f p → requests_of p.opened ≡ ops_of_lines done → IsAtWork t p h → 1 ≤ length h.ops
+    → length (answers_of p.opened ++ p.got) < length (ops_of_lines (done ++ h ∷ rest))
 at_work_fewer t p done h rest f queue opened work some =
-    let d : length (answers_of p.opened) ≡ length (all_ops done) = length-answers p.opened ∙ ap (λ l. length l) opened in
-    let all : length (all_ops (done ++ h ∷ rest)) ≡ length (all_ops done) + length (all_ops (h ∷ rest)) = ap (λ l. length l) (ops-append done (h ∷ rest)) ∙ length-append (all_ops done) (all_ops (h ∷ rest)) in
-    let mine = length-append h.ops (all_ops rest) in
+    let d : length (answers_of p.opened) ≡ length (ops_of_lines done) = length-answers p.opened ∙ ap (λ l. length l) opened in
+    let all : length (ops_of_lines (done ++ h ∷ rest)) ≡ length (ops_of_lines done) + length (ops_of_lines (h ∷ rest)) = ap (λ l. length l) (ops-append done (h ∷ rest)) ∙ length-append (ops_of_lines done) (ops_of_lines (h ∷ rest)) in
+    let mine = length-append h.ops (ops_of_lines rest) in
     let got = length-append (answers_of p.opened) p.got in
-    fewer_by t p h work f queue (length (answers_of p.opened ++ p.got)) (length (all_ops done)) (length (all_ops (done ++ h ∷ rest))) some (omega (arith, got, d)) (omega (arith, all, mine))
+    fewer_by t p h work f queue (length (answers_of p.opened ++ p.got)) (length (ops_of_lines done)) (length (ops_of_lines (done ++ h ∷ rest))) some (omega (arith, got, d)) (omega (arith, all, mine))
 
 less_one : (n k : ℕ) → k ≡ suc n → k - 1 ≡ n
 less_one n k is = omega (arith, is)
@@ -180,26 +182,26 @@ told_none f p opened loaded queue =
 
 pub falls_ready : (f : Fabric) (t : ℕ) (cycles : List ScriptCycle) (ps : List PortRow) (p : CorePort) (todo : List ScriptLine) (phase : Phase) (b : Bool) → ReadyAs f t cycles ps p todo phase
     → TellsAs phase ps p → StandsIn f phase p → IsQueue f p → ((n : ℕ) → AllSome (lines_at cycles n))
-    → (last_port ps).cyc ≡ true → is_busy_phase (phase_after b phase) ≡ not (length (exchange ps).answers == length (all_ops (lines_at cycles (begun ps - 1))))
+    → (last_port ps).cyc ≡ true → is_busy_phase (phase_after b phase) ≡ not (length (exchange ps).answers == length (ops_of_lines (lines_at cycles (begun ps - 1))))
 falls_ready f t cycles ps p todo Idle b ready tells stands queue some up = absurd (true_false (sym up ∙ ready.0.down))
 falls_ready f t cycles ps p todo (Wants set) b (inl r) tells stands queue some up = absurd (true_false (sym up ∙ r.down))
 falls_ready f t cycles ps p todo (Wants set) b (inr w) tells stands queue some up =
     let n : ℕ = w.0 in
     let none : length (exchange ps).answers ≡ 0 = ap (λ (x : Exchange). length x.answers) tells ∙ told_none f p stands.0 stands.1 queue in
-    let all : 1 ≤ length (all_ops (lines_at cycles (begun ps - 1))) = subst (λ (k : ℕ). 1 ≤ length (all_ops (lines_at cycles k))) (sym (less_one n (begun ps) w.1.nth)) (some_ops (lines_at cycles n) t w.1.came (some n)) in
-    wants_busy b set ∙ not_all (length (exchange ps).answers) (length (all_ops (lines_at cycles (begun ps - 1)))) (omega (arith, none, all))
+    let all : 1 ≤ length (ops_of_lines (lines_at cycles (begun ps - 1))) = subst (λ (k : ℕ). 1 ≤ length (ops_of_lines (lines_at cycles k))) (sym (less_one n (begun ps) w.1.nth)) (some_ops (lines_at cycles n) t w.1.came (some n)) in
+    wants_busy b set ∙ not_all (length (exchange ps).answers) (length (ops_of_lines (lines_at cycles (begun ps - 1)))) (omega (arith, none, all))
 falls_ready f t cycles ps p todo (Holds set) b ready tells stands queue some up =
     let r = ready.0 in
     let lines : lines_at cycles (begun ps - 1) ≡ r.1 ++ r.2 ∷ r.3 = ap (λ (k : ℕ). lines_at cycles k) (less_one r.0 (begun ps) r.4.nth) ∙ r.4.lines in
     let each = some-append r.1 (r.2 ∷ r.3) (subst AllSome r.4.lines (some r.0)) in
     let fewer = at_work_fewer t p r.1 r.2 r.3 f queue r.4.opened ready.1 each.1.0 in
     let answers : length (exchange ps).answers ≡ length (answers_of p.opened ++ p.got) = ap (λ (x : Exchange). length x.answers) tells in
-    let ops : length (all_ops (lines_at cycles (begun ps - 1))) ≡ length (all_ops (r.1 ++ r.2 ∷ r.3)) = ap (λ l. length (all_ops l)) lines in
-    not_all (length (exchange ps).answers) (length (all_ops (lines_at cycles (begun ps - 1)))) (omega (arith, fewer, answers, ops))
+    let ops : length (ops_of_lines (lines_at cycles (begun ps - 1))) ≡ length (ops_of_lines (r.1 ++ r.2 ∷ r.3)) = ap (λ l. length (ops_of_lines l)) lines in
+    not_all (length (exchange ps).answers) (length (ops_of_lines (lines_at cycles (begun ps - 1)))) (omega (arith, fewer, answers, ops))
 falls_ready f t cycles ps p todo Leaves b ready tells stands queue some up =
     let e = ready.1 in
     let lines : lines_at cycles (begun ps - 1) ≡ lines_at cycles ready.0 = ap (λ (k : ℕ). lines_at cycles k) (less_one ready.0 (begun ps) e.nth) in
-    all_of (length (exchange ps).answers) (length (all_ops (lines_at cycles (begun ps - 1)))) (e.answers ∙ sym (ap (λ l. length (all_ops l)) lines))
+    all_of (length (exchange ps).answers) (length (ops_of_lines (lines_at cycles (begun ps - 1)))) (e.answers ∙ sym (ap (λ l. length (ops_of_lines l)) lines))
 
 -- ---- STB
 
@@ -231,29 +233,29 @@ head_none : (b : Bool) (n : ℕ) (loaded : List Request) → loaded ≡ [] → h
 head_none true n loaded none = ap (λ l. head_of (drop n l)) none ∙ ap head_of (drop_nil n)
 head_none false n loaded none = refl
 
-first_most : (course : Course) (t answers : ℕ) (lines : List ScriptLine) → first_load course t answers lines ≤ length (all_ops lines)
+first_most : (course : Course) (t answers : ℕ) (lines : List ScriptLine) → first_load course t answers lines ≤ length (ops_of_lines lines)
 first_most Off t answers lines = omega arith
 first_most (Waiting set) t answers lines = omega arith
 first_most (Holding set) t answers [] = omega arith
-first_most (Holding set) t answers (l ∷ lines) = omega (arith, loads_most t answers (length l.ops) lines, length-append l.ops (all_ops lines))
+first_most (Holding set) t answers (l ∷ lines) = omega (arith, loads_most t answers (length l.ops) lines, length-append l.ops (ops_of_lines lines))
 
 -- a port that waits is next_offer nothing
 offered_off : (f : Fabric) (t : ℕ) (lines : List ScriptLine) (ps : List PortRow) → None ≡ next_offer f t lines Off ps
-offered_off f t lines ps = sym (next_none (nat_lt (length (exchange ps).requests) 0) (nat_lt (waiting_count ps) f.depth) (all_ops lines) (length (exchange ps).requests) (lt_zero (length (exchange ps).requests)))
+offered_off f t lines ps = sym (next_none (nat_lt (length (exchange ps).requests) 0) (nat_lt (waiting_count ps) f.depth) (ops_of_lines lines) (length (exchange ps).requests) (lt_zero (length (exchange ps).requests)))
 
 offered_waiting : (f : Fabric) (t set : ℕ) (lines : List ScriptLine) (ps : List PortRow) → None ≡ next_offer f t lines (Waiting set) ps
-offered_waiting f t set lines ps = sym (next_none (nat_lt (length (exchange ps).requests) 0) (nat_lt (waiting_count ps) f.depth) (all_ops lines) (length (exchange ps).requests) (lt_zero (length (exchange ps).requests)))
+offered_waiting f t set lines ps = sym (next_none (nat_lt (length (exchange ps).requests) 0) (nat_lt (waiting_count ps) f.depth) (ops_of_lines lines) (length (exchange ps).requests) (lt_zero (length (exchange ps).requests)))
 
 offered_idle : (f : Fabric) (t set : ℕ) (lines : List ScriptLine) (ps : List PortRow) (c : Course) → (c ≡ Off) ⊎ (c ≡ Waiting set) → None ≡ next_offer f t lines c ps
 offered_idle f t set lines ps c (inl off) = offered_off f t lines ps ∙ ap (λ x. next_offer f t lines x ps) (sym off)
 offered_idle f t set lines ps c (inr waits) = offered_waiting f t set lines ps ∙ ap (λ x. next_offer f t lines x ps) (sym waits)
 
 -- nor is one whose cycle is through
-offered_through : (f : Fabric) (t : ℕ) (lines : List ScriptLine) (ps : List PortRow) (c : Course) → length (exchange ps).requests ≡ length (all_ops lines) → None ≡ next_offer f t lines c ps
+offered_through : (f : Fabric) (t : ℕ) (lines : List ScriptLine) (ps : List PortRow) (c : Course) → length (exchange ps).requests ≡ length (ops_of_lines lines) → None ≡ next_offer f t lines c ps
 offered_through f t lines ps c all =
     let k : ℕ = length (exchange ps).requests in
     let most = first_most c t (length (exchange ps).answers) lines in
-    sym (next_none (nat_lt k (first_load c t (length (exchange ps).answers) lines)) (nat_lt (waiting_count ps) f.depth) (all_ops lines) k
+    sym (next_none (nat_lt k (first_load c t (length (exchange ps).answers) lines)) (nat_lt (waiting_count ps) f.depth) (ops_of_lines lines) k
     (lt_no k (first_load c t (length (exchange ps).answers) lines) (omega (arith, most, all))))
 
 le_yes : (a b : ℕ) → a ≤ b → nat_le a b ≡ true
@@ -319,37 +321,37 @@ length-take (suc n) [] le = absurd (omega (arith, le))
 length-take (suc n) (r ∷ ops) le = ap (λ (k : ℕ). suc k) (length-take n ops (omega (arith, le)))
 
 offered_by : (f : Fabric) (t : ℕ) (ps : List PortRow) (p : CorePort) (lines done : List ScriptLine) (h : ScriptLine) (rest : List ScriptLine) (loads k answers : ℕ) → IsQueue f p → IsAtWork t p h
-    → answers ≡ length (all_ops done) + length p.got → k ≡ length (all_ops done) + p.sent → waiting_count ps ≡ length p.owed
-    → loads ≡ later_loads t answers (0 + length (all_ops done)) (h ∷ rest)
-    → offered f p ≡ next_of (nat_lt k loads && nat_lt (waiting_count ps) f.depth) (all_ops (done ++ h ∷ rest)) k
+    → answers ≡ length (ops_of_lines done) + length p.got → k ≡ length (ops_of_lines done) + p.sent → waiting_count ps ≡ length p.owed
+    → loads ≡ later_loads t answers (0 + length (ops_of_lines done)) (h ∷ rest)
+    → offered f p ≡ next_of (nat_lt k loads && nat_lt (waiting_count ps) f.depth) (ops_of_lines (done ++ h ∷ rest)) k
 offered_by f t ps p lines done h rest loads k answers queue (inl idle) answers_is k_is waits loads_is =
-    let d : ℕ = length (all_ops done) in
+    let d : ℕ = length (ops_of_lines done) in
     let none : length p.loaded ≡ 0 = ap (λ l. length l) idle.0 in
     let loads_d : loads ≡ 0 + d = loads_is ∙ loads_none t answers (0 + d) h rest idle.1 in
     head_none (nat_lt (length p.owed) f.depth) p.sent p.loaded idle.0
-    ∙ sym (next_none (nat_lt k loads) (nat_lt (waiting_count ps) f.depth) (all_ops (done ++ h ∷ rest)) k (lt_no k loads (omega (arith, k_is, loads_d))))
+    ∙ sym (next_none (nat_lt k loads) (nat_lt (waiting_count ps) f.depth) (ops_of_lines (done ++ h ∷ rest)) k (lt_no k loads (omega (arith, k_is, loads_d))))
 offered_by f t ps p lines done h rest loads k answers queue (inr busy) answers_is k_is waits loads_is =
-    let d : ℕ = length (all_ops done) in
+    let d : ℕ = length (ops_of_lines done) in
     let same : length p.loaded ≡ length h.ops = ap (λ l. length l) busy.0 in
     let loads_d : loads ≡ 0 + d + length h.ops = loads_is ∙ loads_this t answers (0 + d) h rest busy.1 (omega (arith, answers_is)) (omega (arith, answers_is, busy.2, same)) in
     let loads_e : loads ≡ d + length h.ops = omega (arith, loads_d) in
-    let ops_are : all_ops (done ++ h ∷ rest) ≡ all_ops done ++ (h.ops ++ all_ops rest) = ops-append done (h ∷ rest) in
-    let next : next_of (nat_lt (d + p.sent) (d + length h.ops)) (all_ops done ++ (h.ops ++ all_ops rest)) (d + p.sent) ≡ head_of (drop p.sent h.ops) =
-    next_loaded (nat_lt (d + p.sent) (d + length h.ops)) (all_ops done) h.ops (all_ops rest) p.sent refl in
-    let whole : next_of (nat_lt k loads) (all_ops (done ++ h ∷ rest)) k ≡ head_of (drop p.sent p.loaded) =
-    ap (λ (n : ℕ). next_of (nat_lt n loads) (all_ops (done ++ h ∷ rest)) n) k_is
-    ∙ ap (λ (n : ℕ). next_of (nat_lt (d + p.sent) n) (all_ops (done ++ h ∷ rest)) (d + p.sent)) loads_e
+    let ops_are : ops_of_lines (done ++ h ∷ rest) ≡ ops_of_lines done ++ (h.ops ++ ops_of_lines rest) = ops-append done (h ∷ rest) in
+    let next : next_of (nat_lt (d + p.sent) (d + length h.ops)) (ops_of_lines done ++ (h.ops ++ ops_of_lines rest)) (d + p.sent) ≡ head_of (drop p.sent h.ops) =
+    next_loaded (nat_lt (d + p.sent) (d + length h.ops)) (ops_of_lines done) h.ops (ops_of_lines rest) p.sent refl in
+    let whole : next_of (nat_lt k loads) (ops_of_lines (done ++ h ∷ rest)) k ≡ head_of (drop p.sent p.loaded) =
+    ap (λ (n : ℕ). next_of (nat_lt n loads) (ops_of_lines (done ++ h ∷ rest)) n) k_is
+    ∙ ap (λ (n : ℕ). next_of (nat_lt (d + p.sent) n) (ops_of_lines (done ++ h ∷ rest)) (d + p.sent)) loads_e
     ∙ ap (λ ops. next_of (nat_lt (d + p.sent) (d + length h.ops)) ops (d + p.sent)) ops_are
     ∙ next ∙ ap (λ ops. head_of (drop p.sent ops)) (sym busy.0) in
-    let here = and_next (nat_lt k loads) (nat_lt (waiting_count ps) f.depth) (all_ops (done ++ h ∷ rest)) k (head_of (drop p.sent p.loaded)) whole in
+    let here = and_next (nat_lt k loads) (nat_lt (waiting_count ps) f.depth) (ops_of_lines (done ++ h ∷ rest)) k (head_of (drop p.sent p.loaded)) whole in
     sym (here ∙ ap (λ (n : ℕ). head_if (nat_lt n f.depth) (head_of (drop p.sent p.loaded))) waits)
 
 -- A cycle at work is next_offer what its port drives.
 offered_at_work : (f : Fabric) (t : ℕ) (ps : List PortRow) (p : CorePort) (set : ℕ) (done : List ScriptLine) (h : ScriptLine) (rest : List ScriptLine) → IsQueue f p → Shows f ps p.owed → exchange ps ≡ told p
-    → requests_of p.opened ≡ all_ops done → AllCome t done → (done ≡ [] → h.clock ≤ t) → IsAtWork t p h
+    → requests_of p.opened ≡ ops_of_lines done → AllCome t done → (done ≡ [] → h.clock ≤ t) → IsAtWork t p h
     → offered f p ≡ next_offer f t (done ++ h ∷ rest) (Holding set) ps
 offered_at_work f t ps p set done h rest queue shows tells opened come first work =
-    let d : ℕ = length (all_ops done) in
+    let d : ℕ = length (ops_of_lines done) in
     let answers : ℕ = length (exchange ps).answers in
     let k : ℕ = length (exchange ps).requests in
     let open_n : length (requests_of p.opened) ≡ d = ap (λ l. length l) opened in
@@ -383,7 +385,7 @@ offers_ready f t cycles ps p todo (Holds set) course ready tells stands queue sh
 offers_ready f t cycles ps p todo Leaves course ready tells stands queue shows stand =
     let e = ready.1 in
     let lines : lines_at cycles (begun ps - 1) ≡ lines_at cycles ready.0 = ap (λ (k : ℕ). lines_at cycles k) (less_one ready.0 (begun ps) e.nth) in
-    idle_driven f p stands.1 ∙ offered_through f t (lines_at cycles (begun ps - 1)) ps course (e.requests ∙ ap (λ ls. length (all_ops ls)) (sym lines))
+    idle_driven f p stands.1 ∙ offered_through f t (lines_at cycles (begun ps - 1)) ps course (e.requests ∙ ap (λ ls. length (ops_of_lines ls)) (sym lines))
 
 -- ---- the next clock
 

@@ -10,7 +10,9 @@ use Rattle.wb_signals.specs.Cycles.{made_with}
 use Rattle.soc_core.specs.Core.{Phase, Idle, Wants, Holds, Leaves, CorePort, Core, port, resting_port, pending, ticks_left, unloaded, with_load, with_taken, raised_of, raised, loaded, taken, released, phase_after, CanRaise, CanLoad, CanTake, CanRelease}
 use Rattle.soc_core.specs.Sound.{StandsIn, IsSoundCore}
 use Rattle.soc_core.specs.Built.{set_of_cycle}
-use Rattle.soc_script_wave.specs.Script.{IsLine, AllLines, ScriptLine, ScriptCycle, all_ops, set_of_lines, set_at, mark_at}
+use Rattle.soc_script.specs.Script.{ScriptLine}
+use Rattle.soc_script.specs.Cycles.{ScriptCycle, ops_of_lines}
+use Rattle.soc_script_wave.specs.Sets.{IsLine, AllLines, set_of_lines, set_at, mark_at}
 use Rattle.soc_script_wave.specs.ScriptWave.{lines_at}
 use Rattle.soc_script_wave.specs.ScriptOwn.{asked_by}
 use Rattle.soc_script_wave.specs.Work.{line_work, work, after_first, holding_work, work_as, port_work}
@@ -30,7 +32,7 @@ asked_first zero cycles = []
 asked_first (suc k) [] = []
 asked_first (suc k) (c ∷ cycles) = asked_by c ∷ asked_first k cycles
 
-pub asked-next : (k : ℕ) (cycles : List ScriptCycle) → k < length cycles → asked_first (suc k) cycles ≡ asked_first k cycles ++ record { cut = mark_at cycles k; ops = all_ops (lines_at cycles k) } ∷ []
+pub asked-next : (k : ℕ) (cycles : List ScriptCycle) → k < length cycles → asked_first (suc k) cycles ≡ asked_first k cycles ++ record { cut = mark_at cycles k; ops = ops_of_lines (lines_at cycles k) } ∷ []
 asked-next k [] lt = absurd (omega (arith, lt))
 asked-next zero (c ∷ cycles) lt = refl
 asked-next (suc k) (c ∷ cycles) lt = ap (λ l. asked_by c ∷ l) (asked-next k cycles (omega (arith, lt)))
@@ -48,7 +50,7 @@ pub record OwnLine (f : Fabric) (cycles : List ScriptCycle) (p : CorePort) (todo
   pub named : set ≡ set_at f cycles k
   pub lines : lines_at cycles k ≡ done ++ h ∷ rest
   pub todo_is : todo ≡ h ∷ rest ++ lines_from cycles (suc k)
-  pub opened : requests_of p.opened ≡ all_ops done
+  pub opened : requests_of p.opened ≡ ops_of_lines done
   pub loaded : (p.loaded ≡ []) ⊎ (p.loaded ≡ h.ops)
 
 abbrev pub OwnAs : Fabric → List ScriptCycle → CorePort → List ScriptLine → ℕ → Phase → Type 0
@@ -328,23 +330,23 @@ module _ (f : Fabric) (fits : IsFabric f) (I : Core → Type 0) (keeps : IsKept 
   taken_here : (core : Core) → I core → port (taken core m) m ≡ with_taken (port core m)
   taken_here core i = set_same core (with_taken (port core m)) i
 
-  taken_requests : (core : Core) (done : List ScriptLine) (h : ScriptLine) → I core → requests_of (port core m).opened ≡ all_ops done → (port core m).loaded ≡ h.ops → pending (port core m) ≡ 0
-      → requests_of (taken_pairs core) ≡ all_ops (done ++ h ∷ [])
+  taken_requests : (core : Core) (done : List ScriptLine) (h : ScriptLine) → I core → requests_of (port core m).opened ≡ ops_of_lines done → (port core m).loaded ≡ h.ops → pending (port core m) ≡ 0
+      → requests_of (taken_pairs core) ≡ ops_of_lines (done ++ h ∷ [])
   taken_requests core done h i opened ops none =
       let p : CorePort = port core m in
       let queue = (keeps.sound core i).queues m in
       let same : length p.loaded ≡ length p.got = omega (arith, queue.sent, queue.counted, none) in
       requests_of-append p.opened (paired p.loaded p.got)
       ∙ ap (λ l. l ++ requests_of (paired p.loaded p.got)) opened
-      ∙ ap (λ l. all_ops done ++ l) (requests_of-paired p.loaded p.got same ∙ ops ∙ sym (append-nil h.ops))
+      ∙ ap (λ l. ops_of_lines done ++ l) (requests_of-paired p.loaded p.got same ∙ ops ∙ sym (append-nil h.ops))
       ∙ sym (ops-append done (h ∷ []))
 
-  some_of : (done : List ScriptLine) (h : ScriptLine) → 1 ≤ length h.ops → all_ops (done ++ h ∷ []) ≢ []
+  some_of : (done : List ScriptLine) (h : ScriptLine) → 1 ≤ length h.ops → ops_of_lines (done ++ h ∷ []) ≢ []
   some_of [] h some none = some_ops (h.ops ++ []) (subst (λ l. 1 ≤ length l) (sym (append-nil h.ops)) some) none
-  some_of (d ∷ done) h some none = some_back d.ops (all_ops (done ++ h ∷ [])) (some_of done h some) none
+  some_of (d ∷ done) h some none = some_back d.ops (ops_of_lines (done ++ h ∷ [])) (some_of done h some) none
 
   releases : (core : Core) (todo : List ScriptLine) (set k : ℕ) (done : List ScriptLine) (h : ScriptLine) (cut : Bool) → I core → map marked (own m core.journal) ≡ asked_first k cycles → (port core m).phase ≡ Holds set → (port core m).loaded ≡ h.ops → pending (port core m) ≡ 0
-      → requests_of (port core m).opened ≡ all_ops done → k < length cycles → lines_at cycles k ≡ done ++ h ∷ [] → IsLine f h → todo ≡ lines_from cycles (suc k) → mark_at cycles k ≡ cut → OwnPrepared core (released (taken core m) m cut) (h ∷ todo) todo
+      → requests_of (port core m).opened ≡ ops_of_lines done → k < length cycles → lines_at cycles k ≡ done ++ h ∷ [] → IsLine f h → todo ≡ lines_from cycles (suc k) → mark_at cycles k ≡ cut → OwnPrepared core (released (taken core m) m cut) (h ∷ todo) todo
   releases core todo set k done h cut i asked is ops none opened below lines line todo_is mark_is =
       let core1 : Core = taken core m in
       let i1 = keeps.take core m i (record { within = lt; none_pending = none }) in
@@ -354,8 +356,8 @@ module _ (f : Fabric) (fits : IsFabric f) (I : Core → Type 0) (keeps : IsKept 
       let here2 : port (released core1 m cut) m ≡ unloaded Leaves [] = set_same core1 (unloaded Leaves []) i1 in
       let requests = taken_requests core done h i opened ops none in
       let some : requests_of (taken_pairs core) ≢ [] = λ empty. some_of done h line.some (sym requests ∙ empty) in
-      let ops_are : requests_of (taken_pairs core) ≡ all_ops (lines_at cycles k) = requests ∙ ap all_ops (sym lines) in
-      let one : record { cut = cut; ops = requests_of (taken_pairs core) } ≡ record { cut = mark_at cycles k; ops = all_ops (lines_at cycles k) } = λ j. record { cut = sym mark_is j; ops = ops_are j } in
+      let ops_are : requests_of (taken_pairs core) ≡ ops_of_lines (lines_at cycles k) = requests ∙ ap ops_of_lines (sym lines) in
+      let one : record { cut = cut; ops = requests_of (taken_pairs core) } ≡ record { cut = mark_at cycles k; ops = ops_of_lines (lines_at cycles k) } = λ j. record { cut = sym mark_is j; ops = ops_are j } in
       record {
         ended_now = suc k;
         state = record {

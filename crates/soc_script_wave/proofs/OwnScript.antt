@@ -9,8 +9,9 @@ use Rattle.soc_core.specs.Core.{Phase, Idle, Wants, Holds, Leaves, CorePort, Cor
 use Rattle.wb_crossbar.specs.Grant.{port_at, IsGranted, IsGrant}
 use Rattle.soc_core.specs.Sound.{StandsIn, IsSoundCore}
 use Rattle.soc_core.specs.Events.{Raise, Load, Take, Release}
-use Rattle.soc_wave.specs.Requests.{put_if}
-use Rattle.soc_script_wave.specs.Script.{ScriptLine, AllLines, ScriptCycle, own_lines, cycles_of}
+use Rattle.soc_script.specs.Script.{ScriptLine}
+use Rattle.soc_script.specs.Cycles.{ScriptCycle, own_lines, cycles_of, put_if}
+use Rattle.soc_script_wave.specs.Sets.{AllLines}
 use Rattle.soc_script_wave.specs.ScriptOwn.{asked_by, OwnIsAsked, ScriptIsRun}
 use Rattle.soc_script_wave.specs.Work.{work, port_work, all_work, latest, ScriptEnds}
 use Rattle.soc_script_wave.specs.Runner.{is_through, settled, settled_if, left_if, begun_by, begun_if, advanced, RunsOn, lines_left, prepared, prepared_from, left_from, is_over, is_nil, is_released, RunsCore, CoreRunsScript, todos_from}

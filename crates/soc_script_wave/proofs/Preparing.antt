@@ -12,11 +12,13 @@ use Rattle.soc_core.specs.Events.{Raise, Load, Take, Release}
 use Rattle.wb_signals.specs.declared.port_row.PortRow.{PortRow}
 use Rattle.wb_signals.specs.Wave.{WaveRowState}
 use Rattle.soc_wave.specs.Rows.{no_port, column, last_port}
-use Rattle.soc_wave.specs.Requests.{put_if, one_if}
+use Rattle.soc_wave.specs.Requests.{one_if}
 use Rattle.soc_wave.specs.Arbitration.{Granting}
 use Rattle.soc_wave.specs.Pairs.{Exchange, exchange, pairs_of, is_some_pairs, rises_from, falls_from, entries_with}
 use Rattle.soc_core.specs.Built.{set_of_cycle}
-use Rattle.soc_script_wave.specs.Script.{IsLine, AllLines, ScriptLine, ScriptCycle, all_ops, set_of_lines, mark_at}
+use Rattle.soc_script.specs.Script.{ScriptLine}
+use Rattle.soc_script.specs.Cycles.{ScriptCycle, ops_of_lines, put_if}
+use Rattle.soc_script_wave.specs.Sets.{IsLine, AllLines, set_of_lines, mark_at}
 use Rattle.soc_script_wave.specs.ScriptWave.{begun, lines_at, may_begin}
 use Rattle.soc_script_wave.specs.Runner.{is_loaded, is_through, after_taken, settled_if, settled, left_if, lines_left, load_if, begun_by, begun_if, advanced, prepared}
 use Rattle.soc_wave.specs.Laws.{Watched}
@@ -364,15 +366,15 @@ module _ (f : Fabric) (fits : IsFabric f) (named : ℕ → ℕ → ℕ) (rows : 
   taken_others core j other = set_other core (with_taken (port core m)) j other
 
   -- its requests are those of the lines that are done then
-  taken_requests : (core : Core) (done : List ScriptLine) (h : ScriptLine) → Keeps f named (bus core) → requests_of (port core m).opened ≡ all_ops done → (port core m).loaded ≡ h.ops → pending (port core m) ≡ 0
-      → requests_of (taken_pairs core) ≡ all_ops (done ++ h ∷ [])
+  taken_requests : (core : Core) (done : List ScriptLine) (h : ScriptLine) → Keeps f named (bus core) → requests_of (port core m).opened ≡ ops_of_lines done → (port core m).loaded ≡ h.ops → pending (port core m) ≡ 0
+      → requests_of (taken_pairs core) ≡ ops_of_lines (done ++ h ∷ [])
   taken_requests core done h k opened ops none =
       let p : CorePort = port core m in
       let queue = k.sound.queues m in
       let same : length p.loaded ≡ length p.got = omega (arith, queue.sent, queue.counted, none) in
       requests_of-append p.opened (paired p.loaded p.got)
       ∙ ap (λ l. l ++ requests_of (paired p.loaded p.got)) opened
-      ∙ ap (λ l. all_ops done ++ l) (requests_of-paired p.loaded p.got same ∙ ops ∙ sym (append-nil h.ops))
+      ∙ ap (λ l. ops_of_lines done ++ l) (requests_of-paired p.loaded p.got same ∙ ops ∙ sym (append-nil h.ops))
       ∙ sym (ops-append done (h ∷ []))
 
   holds_told : (core : Core) (set : ℕ) → Keeps f named (bus core) → (port core m).phase ≡ Holds set → exchange ps ≡ told (port core m)
@@ -387,7 +389,7 @@ module _ (f : Fabric) (fits : IsFabric f) (named : ℕ → ℕ → ℕ) (rows : 
 
   -- its cycle is released
   releases : (core : Core) (todo : List ScriptLine) (set n : ℕ) (done : List ScriptLine) (h : ScriptLine) (cut : Bool) → Keeps f named (bus core) → (port core m).phase ≡ Holds set → (port core m).loaded ≡ h.ops → pending (port core m) ≡ 0
-      → requests_of (port core m).opened ≡ all_ops done → begun ps ≡ suc n → n < length cycles → (last_port ps).cyc ≡ true → lines_at cycles n ≡ done ++ h ∷ [] → todo ≡ lines_from cycles (suc n) → mark_at cycles n ≡ cut
+      → requests_of (port core m).opened ≡ ops_of_lines done → begun ps ≡ suc n → n < length cycles → (last_port ps).cyc ≡ true → lines_at cycles n ≡ done ++ h ∷ [] → todo ≡ lines_from cycles (suc n) → mark_at cycles n ≡ cut
       → IsPrepared core (released (taken core m) m cut) todo
   releases core todo set n done h cut k is ops none opened nth below up lines todo_is mark_is =
       let core1 : Core = taken core m in
@@ -400,7 +402,7 @@ module _ (f : Fabric) (fits : IsFabric f) (named : ℕ → ℕ → ℕ) (rows : 
       let here2 : port core2 m ≡ unloaded Leaves [] = set_same core1 (unloaded Leaves []) k1.sound.ports in
       let shown = shown_whole core set k is none in
       let requests = taken_requests core done h k opened ops none in
-      let total : length (requests_of (taken_pairs core)) ≡ length (all_ops (lines_at cycles n)) = ap (λ l. length l) requests ∙ ap (λ ls. length (all_ops ls)) (sym lines) in
+      let total : length (requests_of (taken_pairs core)) ≡ length (ops_of_lines (lines_at cycles n)) = ap (λ l. length l) requests ∙ ap (λ ls. length (ops_of_lines ls)) (sym lines) in
       let ended_now : HasEnded cycles ps todo n = record {
         nth = nth;
         below = below;

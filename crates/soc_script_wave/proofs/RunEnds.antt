@@ -8,7 +8,7 @@ use Rattle.soc_core.specs.Fabric.{Fabric}
 use Rattle.wb_crossbar.specs.Grant.{Turn, port_at, IsGranted, IsFree, IsGrant}
 use Rattle.soc_core.specs.Core.{Phase, Idle, Wants, Holds, Leaves, CorePort, pending, phase_after, wants, turn, ticks_left}
 use Rattle.soc_core.specs.Sound.{StandsIn}
-use Rattle.soc_script_wave.specs.Script.{ScriptLine}
+use Rattle.soc_script.specs.Script.{ScriptLine}
 use Rattle.soc_script_wave.specs.Work.{work, after_first, holding_work, work_as, port_work}
 use Rattle.soc_script_wave.specs.Runner.{is_loaded}
 use Rattle.soc_wave.proofs.PortRows.{true_false}

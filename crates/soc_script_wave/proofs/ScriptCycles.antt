@@ -2,8 +2,9 @@
 use Rattle.std.proofs.Common.{◌≡◌, ◌≢◌, ℕ, zero, suc, ◌+◌, ◌<◌, ◌≤◌, ◌&&◌, not, Bool, true, false, List, [], ◌∷◌, ◌++◌, length, refl, sym, ap, ◌∙◌, subst, arith, append_assoc, length-append}
 use Rattle.std.specs.Prelude.{nat_le, slice_get}
 use Rattle.wb_signals.specs.Request.{Request}
-use Rattle.soc_wave.specs.Requests.{put_if}
-use Rattle.soc_script_wave.specs.Script.{ScriptLine, ScriptCycle, own_lines, left_open, after_line, cycles_from, cycles_of, all_ops, mark_at}
+use Rattle.soc_script.specs.Script.{ScriptLine}
+use Rattle.soc_script.specs.Cycles.{ScriptCycle, own_lines, left_open, after_line, cycles_from, cycles_of, ops_of_lines, put_if}
+use Rattle.soc_script_wave.specs.Sets.{mark_at}
 use Rattle.soc_script_wave.specs.ScriptWave.{lines_at, later_loads, loads_if}
 use Rattle.soc_wave.proofs.Lists.{append-nil}
 
@@ -139,9 +140,9 @@ holds_here cut (d ∷ e ∷ done) h ends last = holds_here cut (e ∷ done) h en
 
 -- ---- its operations
 
-pub ops-append : (xs ys : List ScriptLine) → all_ops (xs ++ ys) ≡ all_ops xs ++ all_ops ys
+pub ops-append : (xs ys : List ScriptLine) → ops_of_lines (xs ++ ys) ≡ ops_of_lines xs ++ ops_of_lines ys
 ops-append [] ys = refl
-ops-append (l ∷ xs) ys = ap (λ ops. l.ops ++ ops) (ops-append xs ys) ∙ sym (append_assoc l.ops (all_ops xs) (all_ops ys))
+ops-append (l ∷ xs) ys = ap (λ ops. l.ops ++ ops) (ops-append xs ys) ∙ sym (append_assoc l.ops (ops_of_lines xs) (ops_of_lines ys))
 
 -- each of these lines' clock has come
 abbrev pub AllCome : ℕ → List ScriptLine → Type 0
@@ -177,11 +178,11 @@ loads_late true b n more y = not_cut (sym y)
 loads_late false b n more y = refl
 
 -- lines that are answered were loaded
-pub loads_done : (t answered n : ℕ) (done rest : List ScriptLine) → AllCome t done → n + length (all_ops done) ≤ answered → later_loads t answered n (done ++ rest) ≡ later_loads t answered (n + length (all_ops done)) rest
+pub loads_done : (t answered n : ℕ) (done rest : List ScriptLine) → AllCome t done → n + length (ops_of_lines done) ≤ answered → later_loads t answered n (done ++ rest) ≡ later_loads t answered (n + length (ops_of_lines done)) rest
 loads_done t answered n [] rest come le = let e : n ≡ n + 0 = omega arith in ap (λ (k : ℕ). later_loads t answered k rest) e
 loads_done t answered n (d ∷ done) rest come le =
-    let all : length (d.ops ++ all_ops done) ≡ length d.ops + length (all_ops done) = length-append d.ops (all_ops done) in
-    let e : n + length d.ops + length (all_ops done) ≡ n + length (d.ops ++ all_ops done) = omega (arith, all) in
+    let all : length (d.ops ++ ops_of_lines done) ≡ length d.ops + length (ops_of_lines done) = length-append d.ops (ops_of_lines done) in
+    let e : n + length d.ops + length (ops_of_lines done) ≡ n + length (d.ops ++ ops_of_lines done) = omega (arith, all) in
     loads_yes (nat_le d.clock t) (nat_le n answered) n (later_loads t answered (n + length d.ops) (done ++ rest)) (le_yes d.clock t come.0) (le_yes n answered (omega (arith, le)))
     ∙ loads_done t answered (n + length d.ops) done rest come.1 (omega (arith, le, all))
     ∙ ap (λ (k : ℕ). later_loads t answered k rest) e
@@ -204,11 +205,11 @@ loads_most_by true n more here rest all is le = omega (arith, is, le)
 loads_most_by false n more here rest all is le = omega (arith, is, le)
 
 -- never more than there are
-pub loads_most : (t answered n : ℕ) (lines : List ScriptLine) → later_loads t answered n lines ≤ n + length (all_ops lines)
+pub loads_most : (t answered n : ℕ) (lines : List ScriptLine) → later_loads t answered n lines ≤ n + length (ops_of_lines lines)
 loads_most t answered n [] = omega arith
 loads_most t answered n (l ∷ lines) =
-    loads_most_by (nat_le l.clock t && nat_le n answered) n (later_loads t answered (n + length l.ops) lines) (length l.ops) (length (all_ops lines)) (length (l.ops ++ all_ops lines))
-    (length-append l.ops (all_ops lines)) (loads_most t answered (n + length l.ops) lines)
+    loads_most_by (nat_le l.clock t && nat_le n answered) n (later_loads t answered (n + length l.ops) lines) (length l.ops) (length (ops_of_lines lines)) (length (l.ops ++ ops_of_lines lines))
+    (length-append l.ops (ops_of_lines lines)) (loads_most t answered (n + length l.ops) lines)
 
 -- ---- the next operation
 

@@ -18,7 +18,9 @@ use Rattle.soc_wave.specs.Shown.{row_of}
 use Rattle.soc_wave.proofs.PortRows.{true_false, false_true}
 use Rattle.soc_wave.proofs.Decided.{implies, implied, agree, agreed, same_request, requests_same, all_below, below_hold, each_passes, each_clock}
 use Rattle.soc_wave.proofs.Examples.{two, deep, standing, asks, acked, grants, parallel, parallel_3, parallel_grants, contended, contended_grants, slow, slow_grants}
-use Rattle.soc_script_wave.specs.Script.{ScriptLine, ScriptCycle, cycles_of, all_ops, sets_of, marks_of}
+use Rattle.soc_script.specs.Script.{ScriptLine}
+use Rattle.soc_script.specs.Cycles.{ScriptCycle, cycles_of, ops_of_lines}
+use Rattle.soc_script_wave.specs.Sets.{sets_of, marks_of}
 use Rattle.soc_script_wave.specs.ScriptWave.{OnEachMaster, RisesInTime, FallsInTime, OffersInTime, EndsWhere, all_done, begun, lines_at, may_begin, next_offer, request_on}
 use Rattle.soc_script_wave.specs.Runner.{prepared_from, left_from, todos_from}
 
@@ -55,7 +57,7 @@ rises_by t cycles course before p h down =
     (implied (not (last_port before).cyc) (agree p.cyc (may_begin t (lines_at cycles (begun before)))) h (ap not down))
 
 abbrev all_answered : List ScriptCycle → List PortRow → Bool
-all_answered cycles before = length (exchange before).answers == length (all_ops (lines_at cycles (begun before - 1)))
+all_answered cycles before = length (exchange before).answers == length (ops_of_lines (lines_at cycles (begun before - 1)))
 
 abbrev falls_well : MasterTest
 falls_well t cycles course before p = implies (last_port before).cyc (agree p.cyc (not (all_answered cycles before)))

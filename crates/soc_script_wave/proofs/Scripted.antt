@@ -10,12 +10,13 @@ use Rattle.soc_core.specs.Events.{Tick}
 use Rattle.wb_signals.specs.declared.port_row.PortRow.{PortRow}
 use Rattle.wb_signals.specs.Wave.{WaveRowState}
 use Rattle.soc_wave.specs.Rows.{no_port, port_in, column, last_port}
-use Rattle.soc_wave.specs.Requests.{put_if}
 use Rattle.soc_wave.specs.Arbitration.{Course, PortCourse, Arbitration, AreArbitrated, Granting, course_at, arbitration, arbitration_from, arbitrated, no_arbitration}
 use Rattle.soc_wave.specs.Pairs.{rises_from, falls_from, ended_on, entries_with, ended_in, history_from, history}
 use Rattle.soc_wave.specs.Legal.{InEachClock}
 use Rattle.soc_wave.specs.Shown.{port_row}
-use Rattle.soc_script_wave.specs.Script.{IsLine, AllLines, ScriptLine, ScriptCycle, own_lines, cycles_of, sets_of, marks_of, mark_at}
+use Rattle.soc_script.specs.Script.{ScriptLine}
+use Rattle.soc_script.specs.Cycles.{ScriptCycle, own_lines, cycles_of, put_if}
+use Rattle.soc_script_wave.specs.Sets.{IsLine, AllLines, sets_of, marks_of, mark_at}
 use Rattle.soc_script_wave.specs.ScriptWave.{begun, lines_at, may_begin, next_offer, request_on, RisesInTime, FallsInTime, OffersInTime, is_done, all_done_from, all_done, EndsWhere, OnEachMaster}
 use Rattle.soc_script_wave.specs.Runner.{lines_left, prepared, prepared_from, left_from, is_over, is_nil, is_released, IsClock, Runs, RunsScript, todos_from}
 use Rattle.soc_wave.specs.Laws.{Watched, NamesRaised, watched_from}

@@ -1,4 +1,4 @@
-pub mod Script
+pub mod Sets
 pub mod ScriptWave
 pub mod Runner
 pub mod ScriptLaws

@@ -4,7 +4,8 @@ use Rattle.wb_signals.specs.Request.{Request}
 use Rattle.soc_core.specs.Fabric.{Fabric}
 use Rattle.soc_core.specs.Core.{Phase, Idle, Wants, Holds, Leaves, CorePort, Core, port, pending, raised, loaded, taken, released, built_core, IsTick}
 use Rattle.soc_core.specs.Built.{set_of_cycle}
-use Rattle.soc_script_wave.specs.Script.{ScriptLine, own_lines}
+use Rattle.soc_script.specs.Script.{ScriptLine}
+use Rattle.soc_script.specs.Cycles.{own_lines}
 use Rattle.soc_wave.specs.Laws.{Watched, AddsRow, watched_from}
 
 -- ---- before a tick, for one master

@@ -2,7 +2,8 @@
 use Rattle.std.specs.Prelude.{◌≡◌, ℕ, List}
 use Rattle.soc_core.specs.Fabric.{Fabric, IsFabric}
 use Rattle.soc_wave.specs.Pairs.{history}
-use Rattle.soc_script_wave.specs.Script.{ScriptLine, AllLines, marks_of}
+use Rattle.soc_script.specs.Script.{ScriptLine}
+use Rattle.soc_script_wave.specs.Sets.{AllLines, marks_of}
 use Rattle.soc_script_wave.specs.ScriptWave.{IsWaveOf}
 use Rattle.soc_script_wave.specs.Runner.{RunsScript}
 use Rattle.soc_wave.specs.Laws.{Watched}

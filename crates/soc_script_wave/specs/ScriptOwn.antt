@@ -3,12 +3,14 @@ use Rattle.std.specs.Prelude.{◌≡◌, ◌<◌, ℕ, List, map}
 use Rattle.wb_signals.specs.History.{Group, marked, own}
 use Rattle.soc_core.specs.Fabric.{Fabric, IsFabric}
 use Rattle.soc_core.specs.Core.{Core}
-use Rattle.soc_script_wave.specs.Script.{ScriptLine, ScriptCycle, AllLines, cycles_of, all_ops}
+use Rattle.soc_script.specs.Script.{ScriptLine}
+use Rattle.soc_script.specs.Cycles.{ScriptCycle, cycles_of, ops_of_lines}
+use Rattle.soc_script_wave.specs.Sets.{AllLines}
 use Rattle.soc_script_wave.specs.Runner.{CoreRunsScript}
 
 -- what a cycle of a script asks for
 abbrev pub asked_by : ScriptCycle → Group
-asked_by c = record { cut = c.cut; ops = all_ops c.lines }
+asked_by c = record { cut = c.cut; ops = ops_of_lines c.lines }
 
 -- The own part of each master has the marks and operations of its script's cycles, in order.
 abbrev pub OwnIsAsked : Fabric → List ScriptLine → Core → Type 0

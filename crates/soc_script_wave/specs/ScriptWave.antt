@@ -11,7 +11,9 @@ use Rattle.soc_wave.specs.Requests.{waiting_count}
 use Rattle.soc_wave.specs.Arbitration.{Course, Off, Waiting, Holding, Granting, arbitration, course_at}
 use Rattle.soc_wave.specs.Pairs.{exchange, rises_from, history}
 use Rattle.soc_wave.specs.Legal.{InEachClock, IsLegalWave}
-use Rattle.soc_script_wave.specs.Script.{ScriptLine, ScriptCycle, cycles_of, all_ops, sets_of, marks_of}
+use Rattle.soc_script.specs.Script.{ScriptLine}
+use Rattle.soc_script.specs.Cycles.{ScriptCycle, cycles_of, ops_of_lines}
+use Rattle.soc_script_wave.specs.Sets.{sets_of, marks_of}
 
 -- ---- what the rows before a clock say of a master's cycles
 
@@ -38,7 +40,7 @@ RisesInTime t cycles before p = (last_port before).cyc ≡ false → p.cyc ≡ m
 -- Where CYC stands, it falls in the clock after the cycle's last answer.
 abbrev pub FallsInTime : List ScriptCycle → List PortRow → PortRow → Type 0
 FallsInTime cycles before p =
-    (last_port before).cyc ≡ true → p.cyc ≡ not (length (exchange before).answers == length (all_ops (lines_at cycles (begun before - 1))))
+    (last_port before).cyc ≡ true → p.cyc ≡ not (length (exchange before).answers == length (ops_of_lines (lines_at cycles (begun before - 1))))
 
 -- ---- loads
 
@@ -78,7 +80,7 @@ abbrev pub next_offer : Fabric → ℕ → List ScriptLine → Course → List P
 next_offer f t lines course before =
     let k = length (exchange before).requests in
     let loads = first_load course t (length (exchange before).answers) lines in
-    next_of (nat_lt k loads && nat_lt (waiting_count before) f.depth) (all_ops lines) k
+    next_of (nat_lt k loads && nat_lt (waiting_count before) f.depth) (ops_of_lines lines) k
 
 -- From its load on, STB stands with a line's next operation where fewer are unanswered than the depth, and at no other time.
 abbrev pub OffersInTime : Fabric → ℕ → List ScriptCycle → Course → List PortRow → PortRow → Type 0

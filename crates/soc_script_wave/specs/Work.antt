@@ -2,7 +2,8 @@
 use Rattle.std.specs.Prelude.{◌≤◌, ℕ, ◌+◌, ◌-◌, ◌*◌, Bool, true, false, List, [], ◌∷◌, length, max}
 use Rattle.soc_core.specs.Fabric.{Fabric, IsFabric}
 use Rattle.soc_core.specs.Core.{Phase, Idle, Wants, Holds, Leaves, CorePort, Core, built_core, ticks_left}
-use Rattle.soc_script_wave.specs.Script.{ScriptLine, AllLines}
+use Rattle.soc_script.specs.Script.{ScriptLine}
+use Rattle.soc_script_wave.specs.Sets.{AllLines}
 use Rattle.soc_script_wave.specs.Runner.{is_loaded, RunsOn, todos_from}
 
 -- a line: the ticks that its operations take at most, and its other steps

@@ -10,8 +10,8 @@
 //!
 //! - `laws`: what holds of every bus that runs a script
 //!
-//! In `specs`: `Script`, the lines and the cycles that they ask for; `ScriptWave`, the clauses; `Runner`, what is done
-//! before each tick; `Work`, the bound of a run; `ScriptLaws`, `ScriptOwn`, the statements of the laws.
+//! In `specs`: `Sets`, the sets and marks of the cycles that a script asks for; `ScriptWave`, the clauses; `Runner`,
+//! what is done before each tick; `Work`, the bound of a run; `ScriptLaws`, `ScriptOwn`, the statements of the laws.
 #![tactic(auto)]
 
 pub mod laws;

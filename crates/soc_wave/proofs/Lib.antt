@@ -17,3 +17,4 @@ pub mod FlatRows
 pub mod Numbered
 pub mod Decided
 pub mod Examples
+pub mod QueueLemmas

@@ -1,5 +1,5 @@
 -- The rules of a wave, read by the numbers of its clocks.
-use Rattle.std.proofs.Common.{◌≡◌, ℕ, zero, suc, ◌+◌, ◌==◌, ◌||◌, Bool, true, false, List, [], ◌∷◌, ◌++◌, length, take, refl, sym, ap, ◌∙◌, subst, arith, append_assoc}
+use Rattle.std.proofs.Common.{◌≡◌, ℕ, zero, suc, ◌+◌, ◌<◌, ◌==◌, ◌||◌, Bool, true, false, List, [], ◌∷◌, ◌++◌, length, take, refl, sym, ap, ◌∙◌, subst, arith, append_assoc}
 use Rattle.std.specs.Prelude.{slice_get, Option, Some, None}
 use Rattle.std.specs.List.{list_any}
 use Rattle.std.proofs.lemmas.Bool.{eqb-true}
@@ -7,10 +7,10 @@ use Rattle.soc_core.specs.Fabric.{Fabric}
 use Rattle.wb_signals.specs.declared.port_row.PortRow.{PortRow}
 use Rattle.wb_signals.specs.Wave.{WaveRowState}
 use Rattle.wb_signals.specs.Rows.{request_in}
-use Rattle.soc_wave.specs.Rows.{has_passed}
+use Rattle.soc_wave.specs.Rows.{port_in, column, has_passed}
 use Rattle.soc_wave.specs.Requests.{Passed, put_if, passed_from, answer_clock, queue_of}
-use Rattle.soc_wave.specs.Legal.{InEachClock}
-use Rattle.soc_wave.specs.Readings.{ClockByNumber, AnsweredWhereDue}
+use Rattle.soc_wave.specs.Legal.{InEachClock, IsAnswered}
+use Rattle.soc_wave.specs.Readings.{ClockByNumber, AnsweredWhereDue, AnsweredByNumber}
 use Rattle.soc_wave.proofs.Lists.{append-nil}
 use Rattle.soc_wave.proofs.PortRows.{false_true}
 
@@ -116,3 +116,6 @@ answered_where_due f before p answered = (
       record { clock = d.place; row = d.row; stood = d.stood; passed = d.passed; due = omega (arith, d.due) }),
   (λ d. answered.due ∙ due_any f (length before) 0 before d.clock d.row d.stood d.passed (omega (arith, d.due))),
 )
+
+pub answered_by_number : AnsweredByNumber
+answered_by_number f rows = clock_by_number (λ before row. (m : ℕ) → m < f.ports → IsAnswered f (column m before) (port_in m row)) rows

@@ -1,10 +1,14 @@
 -- What the rules of a wave say, clock by clock.
-use Rattle.std.specs.Prelude.{◌≡◌, ◌↔◌, ℕ, ◌+◌, true, List, [], take, length, slice_get, Some}
+use Rattle.std.specs.Prelude.{◌≡◌, ◌↔◌, ℕ, ◌+◌, ◌<◌, true, List, [], take, length, slice_get, Some}
 use Rattle.soc_core.specs.Fabric.{Fabric}
 use Rattle.wb_signals.specs.declared.port_row.PortRow.{PortRow}
 use Rattle.wb_signals.specs.Wave.{WaveRowState}
 use Rattle.wb_signals.specs.Rows.{request_in}
-use Rattle.soc_wave.specs.Rows.{has_passed, has_answer}
+use Rattle.soc_wave.specs.Rows.{port_in, column, has_passed, has_answer}
+use Rattle.soc_desc.specs.declared.description.Description.{Description}
+use Rattle.wb_signals.specs.Request.{Request}
+use Rattle.soc_machine.specs.Described.{described_wiring}
+use Rattle.soc_core.specs.Built.{fabric_of}
 use Rattle.soc_wave.specs.Requests.{queue_of}
 use Rattle.soc_wave.specs.Legal.{InEachClock, IsAnswered}
 
@@ -23,3 +27,11 @@ pub record IsDueIn (f : Fabric) (before : List PortRow) (t : ℕ) : Type 0 where
 -- An answer stands exactly where such a request passed.
 abbrev pub AnsweredWhereDue : Type 0
 AnsweredWhereDue = (f : Fabric) (before : List PortRow) (p : PortRow) → IsAnswered f before p → (has_answer p ≡ true) ↔ IsDueIn f before (length before)
+
+-- So each answer of a wave stands exactly where it is due, read clock by clock or at each clock number.
+abbrev pub AnsweredByNumber : Type 0
+AnsweredByNumber = (f : Fabric) (rows : List WaveRowState) → ClockByNumber (λ before row. (m : ℕ) → m < f.ports → IsAnswered f (column m before) (port_in m row)) rows
+
+-- On the bus of a description each device and each miss is its own queue.
+abbrev pub QueueIsPlace : Type 0
+QueueIsPlace = (d : Description) (r : Request) → queue_of (fabric_of d) r ≡ ((described_wiring d).route r).place
