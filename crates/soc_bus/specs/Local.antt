@@ -4,6 +4,7 @@ use Rattle.wb_signals.specs.Request.{Request}
 use Rattle.wb_signals.specs.Cycles.{MasterCycles, paired, made_after, opened_after}
 use Rattle.wb_signals.specs.declared.answer.Answer.{Answer}
 use Rattle.wb_signals.specs.History.{Entry, IsLegal, after}
+use Rattle.soc_desc.specs.declared.description.Description.{Description}
 use Rattle.soc_core.specs.Fabric.{Fabric}
 use Rattle.soc_core.specs.Built.{fabric_of}
 use Rattle.soc_core.specs.Core.{Idle, Holds, Core, port}
@@ -50,6 +51,11 @@ pub record IsLocal (began now : BusState) (m : ℕ) : Type 0 where
   pub settled : began.core.contents ≡ after (fabric_of now.description).wiring (fabric_of now.description).built began.core.journal
   pub goes_on : take (length began.core.journal) now.core.journal ≡ began.core.journal
   pub ready : IsReady (fabric_of now.description) now.core m
+
+-- What no call of the master changes: the bus as it was when the master came, and the description that the bus was built from.
+pub record LocalOrigin : Type 0 where
+  pub began : BusState
+  pub description : Description
 
 -- The entries made are by themselves a legal history from what the places held when it began.
 abbrev pub MadeLegal : BusState → BusState → Type 0

@@ -292,14 +292,18 @@ impl<'a, R: BusRecorder> Local<'a, R> {
 
 impl<'a, R: BusRecorder> Master for Local<'a, R> {
     ghost use Rattle.eb_base.specs.declared.width.Width.TheVariants.{W32};
-    ghost use Rattle.soc_bus.specs.View.{BusState};
-    ghost use Rattle.soc_bus.specs.Local.{cycles_since};
+    ghost use Rattle.soc_bus.specs.Local.{LocalOrigin, cycles_since};
 
     ghost cycles = { λ p. cycles_since p.began.value p.bus.now p.m };
 
-    ghost Kept = { BusState };
+    ghost Kept = { LocalOrigin };
 
-    ghost identity = { λ p. record { bus = W32; number = p.m; kept = p.began.value } };
+    ghost identity = { λ p.
+        record {
+          bus = W32;
+          number = p.m;
+          kept = record { began = p.began.value; description = p.bus.now.description };
+        } };
 
     ghost answered = { λ p. p.answers.items };
 
