@@ -1,0 +1,4 @@
+pub mod StakeLemmas
+pub mod TurnLemmas
+pub mod RecordLemmas
+pub mod PassLemmas
