@@ -27,7 +27,8 @@ free : {X : Type 0} (o : Option X) (P : Type 0) (Q : X → Type 0) → o ≡ Non
 free o P Q e m = subst (λ (q : Option _). MatchOption q P Q) e m
 
 stays : (c : HostCall) (old mid : HostState) (f : HostFault) → old.fault ≡ Some f → Does old c mid → mid ≡ old
-stays (CycleCall ops result) old mid f e does =
+stays (CycleCall ops result) old mid f e (inr lacks) = lacks.declines.1
+stays (CycleCall ops result) old mid f e (inl does) =
     (declined old.fault (MatchOption (too_wide old.header ops) (Calls (cycle_records old.header ops) (answered old.header ops) old mid result) (λ adr. Declines old mid result (fault.TooWide adr))) (λ g. Declines old mid result g) f e does).1
 stays (RootCall result) old mid f e does =
     (declined old.fault (Calls (closing old.header 8 ∷ []) (root_in old.header) old mid result) (λ g. Declines old mid result g) f e does).1
@@ -51,30 +52,24 @@ module _ {A : Type 0} (rs : List Record) (taken : List ℕ → A) (old mid : Hos
   call_went : (result : Result A HostFault) → Calls rs taken old mid result → Went (extent result) (asks old.header rs) old mid
   call_went (Ok a) (heard, sends, is) =
       (sends.0.0.written, ap (λ (s : HostState). s.header) sends.1, ap (λ (s : HostState). s.fault) sends.1 ∙ none)
-  call_went (Err (fault.TooWide adr)) (inl (e, same)) = same
-  call_went (Err (fault.TooWide adr)) (inr (heard, sends)) = absurd sends.0
-  call_went (Err fault.NoMemory) (inl (e, same)) = same
-  call_went (Err fault.NoMemory) (inr (heard, sends)) = absurd sends.0
-  call_went (Err (fault.NoCommonWidth widths)) (inl (e, same)) = absurd cc
-  call_went (Err (fault.NoCommonWidth widths)) (inr (heard, sends)) = absurd sends.0
-  call_went (Err fault.LinkWrite) (inl (e, same)) = absurd cc
-  call_went (Err fault.LinkWrite) (inr (heard, sends)) =
+  call_went (Err (fault.TooWide adr)) (heard, sends) = absurd sends.0
+  call_went (Err fault.NoMemory) (heard, sends) = absurd sends.0
+  call_went (Err (fault.NoCommonWidth widths)) (heard, sends) = absurd sends.0
+  call_went (Err fault.LinkWrite) (heard, sends) =
       let front = sends.0.0 in (front.front, front.back, fault.LinkWrite, front.parts, front.written, ap (λ (s : HostState). s.fault) sends.1)
-  call_went (Err fault.LinkRead) (inl (e, same)) = absurd cc
-  call_went (Err fault.LinkRead) (inr (heard, sends)) =
+  call_went (Err fault.LinkRead) (heard, sends) =
       (asks old.header rs, [], fault.LinkRead, sym (append-nil (asks old.header rs)), sends.0.1.written, ap (λ (s : HostState). s.fault) sends.1)
-  call_went (Err (fault.Ended n)) (inl (e, same)) = absurd cc
-  call_went (Err (fault.Ended n)) (inr (heard, sends)) =
+  call_went (Err (fault.Ended n)) (heard, sends) =
       (asks old.header rs, [], fault.Ended n, sym (append-nil (asks old.header rs)), sends.0.0.written, ap (λ (s : HostState). s.fault) sends.1)
-  call_went (Err (fault.BadReply p)) (inl (e, same)) = absurd cc
-  call_went (Err (fault.BadReply p)) (inr (heard, sends)) =
+  call_went (Err (fault.BadReply p)) (heard, sends) =
       (asks old.header rs, [], fault.BadReply p, sym (append-nil (asks old.header rs)), sends.0.1.written, ap (λ (s : HostState). s.fault) sends.1)
 
 went : (c : HostCall) (old mid : HostState) → old.fault ≡ None → Does old c mid → Went (extent_of c) (asked_by old.header c) old mid
 went (RootCall result) old mid none does =
     call_went (closing old.header 8 ∷ []) (root_in old.header) old mid none result
     (free old.fault (Calls (closing old.header 8 ∷ []) (root_in old.header) old mid result) (λ g. Declines old mid result g) none does)
-went (CycleCall ops result) old mid none does = by (too_wide old.header ops) (free old.fault (Narrow (too_wide old.header ops)) (λ g. Declines old mid result g) none does)
+went (CycleCall ops result) old mid none (inr lacks) = subst (λ (r : Result (List HostAnswer) HostFault). Went (extent r) (asks old.header (cycle_records old.header ops)) old mid) (sym lacks.declines.0) lacks.declines.1
+went (CycleCall ops result) old mid none (inl does) = by (too_wide old.header ops) (free old.fault (Narrow (too_wide old.header ops)) (λ g. Declines old mid result g) none does)
   where
     Narrow : Option ℕ → Type 0
     Narrow o = MatchOption o (Calls (cycle_records old.header ops) (answered old.header ops) old mid result) (λ adr. Declines old mid result (fault.TooWide adr))

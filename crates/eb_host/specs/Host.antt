@@ -43,13 +43,15 @@ Sends asked expected old new heard (Err f) =
 abbrev pub Declines : {A : Type 0} → HostState → HostState → Result A HostFault → HostFault → Type 0
 Declines old new result f = (result ≡ Err f) × (new ≡ old)
 
--- A call that sends these records: its answer is taken from the octets that came; or there was a fault, which is kept; or
--- there was no memory, and nothing was sent.
+-- These records were sent, and there was a fault, which is kept.
+abbrev pub CallFails : List Record → HostState → HostState → HostFault → Type 0
+CallFails rs old new f = (heard : List ℕ) × Sends (asks old.header rs) (expects old.header rs) old new heard (Err f)
+
+-- A call that sends these records: its answer is taken from the octets that came; or there was a fault, which is kept.
 abbrev pub Calls : {A : Type 0} → List Record → (List ℕ → A) → HostState → HostState → Result A HostFault → Type 0
 Calls rs taken old new (Ok a) =
     (heard : List ℕ) × Sends (asks old.header rs) (expects old.header rs) old new heard (Ok tt) × (a ≡ taken heard)
-Calls rs taken old new (Err f) =
-    ((f ≡ fault.NoMemory) × (new ≡ old)) ⊎ ((heard : List ℕ) × Sends (asks old.header rs) (expects old.header rs) old new heard (Err f))
+Calls rs taken old new (Err f) = CallFails rs old new f
 
 -- A cycle of operations. A fault that is kept is answered again; else the first address that is too wide is answered; else
 -- the records of the cycle are sent.
@@ -59,6 +61,16 @@ RunsCycle old new ops result = MatchOption old.fault
     (Calls (cycle_records old.header ops) (answered old.header ops) old new result)
     (λ adr. Declines old new result (fault.TooWide adr)))
     (λ f. Declines old new result f)
+
+-- Where the cycle would be sent there was no memory for its answers, and nothing was.
+pub record LacksMemory (old new : HostState) (ops : List HostOp) (result : Result (List HostAnswer) HostFault) : Type 0 where
+  pub none_kept : old.fault ≡ None
+  pub narrow : too_wide old.header ops ≡ None
+  pub declines : Declines old new result fault.NoMemory
+
+-- A cycle of operations that takes memory for its answers.
+abbrev pub Cycles : HostState → HostState → List HostOp → Result (List HostAnswer) HostFault → Type 0
+Cycles old new ops result = RunsCycle old new ops result ⊎ LacksMemory old new ops result
 
 -- the answers of a result
 abbrev pub given : Result (Vec HostAnswer) HostFault → Result (List HostAnswer) HostFault

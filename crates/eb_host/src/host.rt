@@ -1,23 +1,20 @@
 //! The host: it opens a link, runs cycles, and keeps its first fault.
 
-ghost use Rattle.std.specs.Prelude.{◌≡◌, ◌<◌, ◌≤◌, ◌^◌, [], length, All, nat_lt, vec_capacity, ◌∷◌, ◌/◌, IfOk, MatchResult, true, false};
+ghost use Rattle.std.specs.Prelude.{◌≡◌, ◌<◌, ◌≤◌, ◌^◌, [], length, All, nat_lt, vec_capacity, ◌∷◌, ◌/◌, IfOk, MatchResult, Ok, true, false};
 ghost use Rattle.eb_base.specs.declared.width.Width.{Width};
 ghost use Rattle.eb_base.specs.Width.{octets, bit, AreSets};
 ghost use Rattle.eb_codec.specs.Form.{Fills};
-ghost use Rattle.eb_host.specs.Asks.{FitsOp, expects, closing, cycle_records};
+ghost use Rattle.eb_host.specs.Asks.{FitsOp, asks, expects, closing, cycle_records};
 ghost use Rattle.eb_host.specs.Answers.{answered, joined, FitsPort};
 ghost use Rattle.eb_host.specs.Exchange.{duplex};
-ghost use Rattle.eb_host.specs.Host.{too_wide as too_wide_in, header as header_with, Sends, Calls, RunsCycle, ReadsRoot, root_in, given, alone};
+ghost use Rattle.eb_host.specs.Host.{too_wide as too_wide_in, header as header_with, Sends, Calls, CallFails, RunsCycle, Cycles, ReadsRoot, root_in, given, alone};
 ghost use Rattle.eb_host.specs.Opening.{Opened, NotOpened};
 ghost use Rattle.eb_host.specs.View.{link_of, sent_header, host_state};
 
-use crate::asks::{put_closing, put_cycle};
-use crate::exchange::exchange;
-use crate::expected::{expect_closing, expect_cycle};
 use crate::link::HostLink;
 use crate::op::{HostAnswer, HostFault, HostOp};
-use crate::opening::shake;
-use crate::replies::{closing_at, joined_at, put_answers};
+use crate::replies::{answer, closing_at, joined_at, next_at, op_word, put_answers};
+use crate::rooms::Rooms;
 use eb_base::{NoMemory, Width, Widths};
 use eb_codec::Header;
 use eb_codec::sizes::unit_len;
@@ -26,7 +23,7 @@ use std::alloc::Global;
 /// The host at one end of a link, which a slave of Etherbone 1.0 serves at the other.
 ///
 /// Contracts see it as a `HostState`: what its link tells, the header that it sent, how many octets it read, and the
-/// fault that it keeps.
+/// fault that it keeps. The rooms for a call are taken when it is opened.
 #[derive(Drop)]
 pub struct Host<L> {
     link: L,
@@ -34,6 +31,7 @@ pub struct Host<L> {
     port: Width,
     read: u64,
     fault: Option<HostFault>,
+    rooms: Rooms,
 }
 
 // Whether an address has no more bits than the width.
@@ -80,22 +78,19 @@ impl<L: HostLink> Host<L> {
         ensures other_end { MatchResult result (λ host. L.other_end (link_of host) ≡ L.other_end link)
             (λ e. L.other_end e.0 ≡ L.other_end link) }
     {
-        let mut first = match Vec::with_capacity(alloc, 8) {
-            Ok(first) => first,
-            Err(_) => return Err((link, HostFault::NoMemory)),
-        };
-        let mut second = match Vec::with_capacity(alloc, 8) {
-            Ok(second) => second,
-            Err(_) => return Err((link, HostFault::NoMemory)),
+        let mut rooms = match Rooms::new(alloc) {
+            Ok(rooms) => rooms,
+            Err(NoMemory) => return Err((link, HostFault::NoMemory)),
         };
         let mut link = link;
-        match shake(&mut link, widths, &mut first, &mut second) {
+        match rooms.shake(&mut link, widths) {
             Ok(header) => Ok(Host {
                 link,
                 address: header.address,
                 port: header.port,
                 read: 8 + unit_len(header) as u64,
                 fault: None,
+                rooms,
             }),
             Err(fault) => Err((link, fault)),
         }
@@ -125,23 +120,17 @@ impl<L: HostLink> Host<L> {
         }
     }
 
-    // Sends octets, reads those that are expected, and keeps a fault.
-    fn send(
-        &mut self,
-        asks: &[u8],
-        expected: &[Option<u8>],
-        heard: &mut Vec<u8>,
-    ) -> Result<(), HostFault>
-        requires empty { heard.old.items ≡ [] }
-        requires room { length expected.now ≤ vec_capacity heard.old }
-        ensures sends { Sends asks.now expected.now (host_state L.reading L.writing self.old)
-            (host_state L.reading L.writing self.new) heard.new.items result }
+    // Sends what stands in the rooms, reads what is expected, and keeps a fault.
+    fn send(&mut self) -> Result<(), HostFault>
+        ensures sends { Sends self.old.rooms.asks.items self.old.rooms.expected.items
+            (host_state L.reading L.writing self.old) (host_state L.reading L.writing self.new)
+            self.new.rooms.heard.items result }
         ensures header { sent_header self.new ≡ sent_header self.old }
         ensures other_end { L.other_end (link_of self.new) ≡ L.other_end (link_of self.old) }
     {
-        match exchange(&mut self.link, asks, expected, heard, self.read) {
+        match self.rooms.exchange(&mut self.link, self.read) {
             Ok(()) => {
-                self.read = self.read.saturating_add(heard.len() as u64);
+                self.read = self.read.saturating_add(self.rooms.heard().len() as u64);
                 Ok(())
             }
             Err(fault) => {
@@ -151,42 +140,26 @@ impl<L: HostLink> Host<L> {
         }
     }
 
-    // A cycle whose addresses have the address width, where no fault is kept.
-    fn narrow_cycle(&mut self, alloc: Global, ops: &[HostOp]) -> Result<Vec<HostAnswer>, HostFault>
+    // Sends a cycle whose addresses have the address width, and reads its replies.
+    fn ask_cycle(&mut self, ops: &[HostOp]) -> Result<(), HostFault>
         requires most { length ops.now ≤ 64 }
         requires fit { All (FitsOp (sent_header self.old)) ops.now }
-        ensures calls { Calls (cycle_records (sent_header self.old) ops.now) (answered (sent_header self.old) ops.now)
-            (host_state L.reading L.writing self.old) (host_state L.reading L.writing self.new) (given result) }
-        ensures count { IfOk result (λ answers. length answers.items ≡ length ops.now) }
-        ensures words { IfOk result (λ answers. All (FitsPort (sent_header self.old)) answers.items) }
+        ensures sends { MatchResult result
+            (λ _. Sends (asks (sent_header self.old) (cycle_records (sent_header self.old) ops.now))
+            (expects (sent_header self.old) (cycle_records (sent_header self.old) ops.now))
+            (host_state L.reading L.writing self.old) (host_state L.reading L.writing self.new)
+            self.new.rooms.heard.items (Ok tt))
+            (λ f. CallFails (cycle_records (sent_header self.old) ops.now) (host_state L.reading L.writing self.old)
+            (host_state L.reading L.writing self.new) f) }
         ensures header { sent_header self.new ≡ sent_header self.old }
         ensures other_end { L.other_end (link_of self.new) ≡ L.other_end (link_of self.old) }
     {
         let header = self.header();
-        let mut asks = Vec::new(alloc);
-        match put_cycle(alloc, header, ops, &mut asks) {
-            Ok(()) => {}
-            Err(NoMemory) => return Err(HostFault::NoMemory),
+        self.rooms.put_cycle(header, ops);
+        match self.send() {
+            Ok(()) => Ok(()),
+            Err(fault) => Err(fault),
         }
-        let mut expected = Vec::new(alloc);
-        match expect_cycle(&mut expected, header, ops) {
-            Ok(()) => {}
-            Err(NoMemory) => return Err(HostFault::NoMemory),
-        }
-        let mut heard = match Vec::with_capacity(alloc, expected.len()) {
-            Ok(heard) => heard,
-            Err(_) => return Err(HostFault::NoMemory),
-        };
-        let mut answers = match Vec::with_capacity(alloc, ops.len()) {
-            Ok(answers) => answers,
-            Err(_) => return Err(HostFault::NoMemory),
-        };
-        match self.send(&asks, &expected, &mut heard) {
-            Ok(()) => {}
-            Err(fault) => return Err(fault),
-        }
-        take_answers(header, ops, &heard, &mut answers);
-        Ok(answers)
     }
 
     /// Runs 1 to 64 operations as one cycle, and answers each: the word that was read, 0 for a write, or an error of
@@ -194,12 +167,13 @@ impl<L: HostLink> Host<L> {
     ///
     /// The data have the port's width. A fault of the link or of a reply is kept, and answered from then on, without
     /// anything being sent. `TooWide` comes exactly where no fault is kept and an address is wider than the address
-    /// width, with the first such address. It and `NoMemory` come before anything is sent, and aren't kept.
+    /// width, with the first such address. `NoMemory` comes where there is none for the list of answers. Both come
+    /// before anything is sent, and aren't kept.
     pub fn cycle(&mut self, alloc: Global, ops: &[HostOp]) -> Result<Vec<HostAnswer>, HostFault>
         requires least { 0 < length ops.now }
         requires most { length ops.now ≤ 64 }
         requires fit { All (λ op. op.dat < 256 ^ octets (sent_header self.old).port) ops.now }
-        ensures cycle { RunsCycle (host_state L.reading L.writing self.old) (host_state L.reading L.writing self.new)
+        ensures cycle { Cycles (host_state L.reading L.writing self.old) (host_state L.reading L.writing self.new)
             ops.now (given result) }
         ensures count { IfOk result (λ answers. length answers.items ≡ length ops.now) }
         ensures words { IfOk result (λ answers. All (FitsPort (sent_header self.old)) answers.items) }
@@ -212,11 +186,20 @@ impl<L: HostLink> Host<L> {
         if let Some(adr) = too_wide(self.header(), ops) {
             return Err(HostFault::TooWide(adr));
         }
-        self.narrow_cycle(alloc, ops)
+        let mut answers = match Vec::with_capacity(alloc, ops.len()) {
+            Ok(answers) => answers,
+            Err(_) => return Err(HostFault::NoMemory),
+        };
+        match self.ask_cycle(ops) {
+            Ok(()) => {}
+            Err(fault) => return Err(fault),
+        }
+        take_answers(self.header(), ops, self.rooms.heard(), &mut answers);
+        Ok(answers)
     }
 
     // A cycle of one operation.
-    fn one(&mut self, alloc: Global, op: HostOp) -> Result<HostAnswer, HostFault>
+    fn one(&mut self, op: HostOp) -> Result<HostAnswer, HostFault>
         requires fit { op.dat < 256 ^ octets (sent_header self.old).port }
         ensures cycle { RunsCycle (host_state L.reading L.writing self.old) (host_state L.reading L.writing self.new)
             (op ∷ []) (alone result) }
@@ -224,32 +207,38 @@ impl<L: HostLink> Host<L> {
         ensures header { sent_header self.new ≡ sent_header self.old }
         ensures other_end { L.other_end (link_of self.new) ≡ L.other_end (link_of self.old) }
     {
-        match self.cycle(alloc, &[op]) {
-            Ok(answers) => Ok(answers[0]),
+        if let Some(fault) = self.fault {
+            return Err(fault);
+        }
+        let ops = [op];
+        if let Some(adr) = too_wide(self.header(), &ops) {
+            return Err(HostFault::TooWide(adr));
+        }
+        match self.ask_cycle(&ops) {
+            Ok(()) => Ok(take_answer(self.header(), op, self.rooms.heard())),
             Err(fault) => Err(fault),
         }
     }
 
-    /// Reads the word at an address, as a cycle of its own. Faults are those of `cycle`.
-    pub fn read(&mut self, alloc: Global, adr: u64) -> Result<HostAnswer, HostFault>
+    /// Reads the word at an address, as a cycle of its own. Faults are those of `cycle`,
+    /// but for `NoMemory`.
+    pub fn read(&mut self, adr: u64) -> Result<HostAnswer, HostFault>
         ensures cycle { RunsCycle (host_state L.reading L.writing self.old) (host_state L.reading L.writing self.new)
             (record { write = false; adr = adr; dat = 0 } ∷ []) (alone result) }
         ensures word { IfOk result (FitsPort (sent_header self.old)) }
         ensures header { sent_header self.new ≡ sent_header self.old }
         ensures other_end { L.other_end (link_of self.new) ≡ L.other_end (link_of self.old) }
     {
-        self.one(
-            alloc,
-            HostOp {
-                write: false,
-                adr,
-                dat: 0,
-            },
-        )
+        self.one(HostOp {
+            write: false,
+            adr,
+            dat: 0,
+        })
     }
 
-    /// Writes a word of the port's width to an address, as a cycle of its own. Faults are those of `cycle`.
-    pub fn write(&mut self, alloc: Global, adr: u64, dat: u64) -> Result<HostAnswer, HostFault>
+    /// Writes a word of the port's width to an address, as a cycle of its own. Faults are those of `cycle`,
+    /// but for `NoMemory`.
+    pub fn write(&mut self, adr: u64, dat: u64) -> Result<HostAnswer, HostFault>
         requires fit { dat < 256 ^ octets (sent_header self.old).port }
         ensures cycle { RunsCycle (host_state L.reading L.writing self.old) (host_state L.reading L.writing self.new)
             (record { write = true; adr = adr; dat = dat } ∷ []) (alone result) }
@@ -257,19 +246,16 @@ impl<L: HostLink> Host<L> {
         ensures header { sent_header self.new ≡ sent_header self.old }
         ensures other_end { L.other_end (link_of self.new) ≡ L.other_end (link_of self.old) }
     {
-        self.one(
-            alloc,
-            HostOp {
-                write: true,
-                adr,
-                dat,
-            },
-        )
+        self.one(HostOp {
+            write: true,
+            adr,
+            dat,
+        })
     }
 
     /// The address of the table of the root bus, from the slave's configuration space. Faults are those of `cycle`,
-    /// but for `TooWide`.
-    pub fn root(&mut self, alloc: Global) -> Result<u64, HostFault>
+    /// but for `TooWide` and `NoMemory`.
+    pub fn root(&mut self) -> Result<u64, HostFault>
         ensures root { ReadsRoot (host_state L.reading L.writing self.old) (host_state L.reading L.writing self.new)
             result }
         ensures header { sent_header self.new ≡ sent_header self.old }
@@ -278,36 +264,22 @@ impl<L: HostLink> Host<L> {
         if let Some(fault) = self.fault {
             return Err(fault);
         }
-        self.ask_root(alloc)
+        self.ask_root()
     }
 
     // The same where no fault is kept.
-    fn ask_root(&mut self, alloc: Global) -> Result<u64, HostFault>
+    fn ask_root(&mut self) -> Result<u64, HostFault>
         ensures calls { Calls (closing (sent_header self.old) 8 ∷ []) (root_in (sent_header self.old))
             (host_state L.reading L.writing self.old) (host_state L.reading L.writing self.new) result }
         ensures header { sent_header self.new ≡ sent_header self.old }
         ensures other_end { L.other_end (link_of self.new) ≡ L.other_end (link_of self.old) }
     {
         let header = self.header();
-        let mut asks = Vec::new(alloc);
-        match put_closing(alloc, header, 8, &mut asks) {
-            Ok(()) => {}
-            Err(NoMemory) => return Err(HostFault::NoMemory),
+        self.rooms.put_closing(header, 8);
+        match self.send() {
+            Ok(()) => Ok(take_root(header, self.rooms.heard())),
+            Err(fault) => Err(fault),
         }
-        let mut expected = Vec::new(alloc);
-        match expect_closing(&mut expected, header, 8) {
-            Ok(()) => {}
-            Err(NoMemory) => return Err(HostFault::NoMemory),
-        }
-        let mut heard = match Vec::with_capacity(alloc, expected.len()) {
-            Ok(heard) => heard,
-            Err(_) => return Err(HostFault::NoMemory),
-        };
-        match self.send(&asks, &expected, &mut heard) {
-            Ok(()) => {}
-            Err(fault) => return Err(fault),
-        }
-        Ok(take_root(header, &heard))
     }
 
     /// Gives the link back, as the last call left it.
@@ -324,6 +296,16 @@ fn take_root(header: Header, heard: &[u8]) -> u64
     ensures { result ≡ joined header heard.now 0 (8 / octets header.port) }
 {
     joined_at(header, heard, 0)
+}
+
+// The answer of a cycle of one operation from its replies.
+fn take_answer(header: Header, op: HostOp, heard: &[u8]) -> HostAnswer
+    requires fills { Fills heard.now (expects header (cycle_records header (op ∷ []))) }
+    ensures same { result ∷ [] ≡ answered header (op ∷ []) heard.now }
+    ensures fits { FitsPort header result }
+{
+    let errors = joined_at(header, heard, next_at(header, 0, op));
+    answer(header, errors, 0, op_word(header, heard, 0, op))
 }
 
 // The answers of a cycle from its replies.

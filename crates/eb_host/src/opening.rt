@@ -1,6 +1,6 @@
 //! How a link is opened: the probe, the choice of widths, and the header.
 
-ghost use Rattle.std.specs.Prelude.{◌≡◌, ◌≤◌, [], length, vec_capacity, MatchResult, Ok, Err, false};
+ghost use Rattle.std.specs.Prelude.{◌≡◌, ◌≤◌, length, vec_capacity, MatchResult, Ok, Err, false};
 ghost use Rattle.eb_base.specs.Width.{AreSets};
 ghost use Rattle.eb_host.specs.Exchange.{duplex};
 ghost use Rattle.eb_host.specs.Host.{header as header_with};
@@ -59,13 +59,13 @@ fn probe<L: HostLink>(
     heard: &mut Vec<u8>,
 ) -> Result<Widths, HostFault>
     requires sets { AreSets widths }
-    requires empty { heard.old.items ≡ [] }
     requires room { 8 ≤ vec_capacity heard.old }
     ensures probes { MatchResult result
         (λ w. Probes widths (duplex (L.reading link.old) (L.writing link.old))
         (duplex (L.reading link.new) (L.writing link.new)) heard.new.items (Ok tt) × (w ≡ sets_in heard.new.items))
         (λ f. Probes widths (duplex (L.reading link.old) (L.writing link.old))
         (duplex (L.reading link.new) (L.writing link.new)) heard.new.items (Err f)) }
+    ensures room { vec_capacity heard.old ≤ vec_capacity heard.new }
     ensures other_end { L.other_end link.new ≡ L.other_end link.old }
 {
     let asks = [
@@ -97,10 +97,10 @@ fn probe<L: HostLink>(
 // Sends the header, and reads its answer.
 fn head<L: HostLink>(link: &mut L, header: Header, heard: &mut Vec<u8>) -> Result<(), HostFault>
     requires replied { header.no_reply ≡ false }
-    requires empty { heard.old.items ≡ [] }
     requires room { 8 ≤ vec_capacity heard.old }
     ensures heads { Heads header (duplex (L.reading link.old) (L.writing link.old))
         (duplex (L.reading link.new) (L.writing link.new)) heard.new.items result }
+    ensures room { vec_capacity heard.old ≤ vec_capacity heard.new }
     ensures other_end { L.other_end link.new ≡ L.other_end link.old }
 {
     let (a, b) = (MAGIC[0], MAGIC[1]);
@@ -129,22 +129,19 @@ fn head<L: HostLink>(link: &mut L, header: Header, heard: &mut Vec<u8>) -> Resul
 pub fn shake<L: HostLink>(
     link: &mut L,
     widths: Widths,
-    first: &mut Vec<u8>,
-    second: &mut Vec<u8>,
+    heard: &mut Vec<u8>,
 ) -> Result<Header, HostFault>
     requires sets { AreSets widths }
-    requires empty { first.old.items ≡ [] }
-    requires room { 8 ≤ vec_capacity first.old }
-    requires empty_2 { second.old.items ≡ [] }
-    requires room_2 { 8 ≤ vec_capacity second.old }
+    requires room { 8 ≤ vec_capacity heard.old }
     ensures shakes { MatchResult result
         (λ h. (h ≡ header_with h.address h.port) × Shaken widths (duplex (L.reading link.old) (L.writing link.old))
         (duplex (L.reading link.new) (L.writing link.new)) h)
         (λ f. Fails widths (duplex (L.reading link.old) (L.writing link.old))
         (duplex (L.reading link.new) (L.writing link.new)) f) }
+    ensures room { vec_capacity heard.old ≤ vec_capacity heard.new }
     ensures other_end { L.other_end link.new ≡ L.other_end link.old }
 {
-    let theirs = match probe(link, widths, first) {
+    let theirs = match probe(link, widths, heard) {
         Ok(theirs) => theirs,
         Err(fault) => return Err(fault),
     };
@@ -159,7 +156,7 @@ pub fn shake<L: HostLink>(
         address,
         port,
     };
-    match head(link, header, second) {
+    match head(link, header, heard) {
         Ok(()) => Ok(header),
         Err(fault) => Err(fault),
     }

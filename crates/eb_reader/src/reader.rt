@@ -9,16 +9,14 @@ ghost use Rattle.eb_reader.specs.Reader.{HasReadWords, ReadsWord, began_with, ne
 use eb_host::{Host, HostAnswer, HostFault, HostLink};
 use sdb_walk::{Exchange, NoWord, WordReader};
 use soc_trail::Trail;
-use std::alloc::Global;
 use std::marker::Model;
 use std::snapshot::Snapshot;
 
 /// Reads words through a host whose port has 32 bits, each as a cycle of its own. Clauses see all that was asked and
-/// answered, and the host with which the reader began; memory keeps none of it.
+/// answered, and the host with which the reader began; memory keeps none of it, and no read takes any.
 #[derive(Drop)]
 pub struct HostReader<L: HostLink> {
     host: Host<L>,
-    alloc: Global,
     began: Snapshot<Host<L>>,
     asked: Trail<Exchange<HostFault>>,
 }
@@ -35,14 +33,13 @@ impl<L: HostLink> Model for HostReader<L> {
 
 impl<L: HostLink> HostReader<L> {
     /// A reader over this host, which was asked for nothing yet.
-    pub fn new(alloc: Global, host: Host<L>) -> HostReader<L>
+    pub fn new(host: Host<L>) -> HostReader<L>
         requires port { (sent_header host).port ≡ W32 }
         ensures new { result ≡ new_reader host }
     {
         let began = Snapshot::of(&host);
         HostReader {
             host,
-            alloc,
             began,
             asked: Trail::new(),
         }
@@ -58,14 +55,14 @@ impl<L: HostLink> HostReader<L> {
 }
 
 // The answer to a read.
-fn ask<L: HostLink>(alloc: Global, host: &mut Host<L>, adr: u64) -> Result<u32, NoWord<HostFault>>
+fn ask<L: HostLink>(host: &mut Host<L>, adr: u64) -> Result<u32, NoWord<HostFault>>
     requires port { (sent_header host.old).port ≡ W32 }
     ensures reads { ReadsWord (host_state L.reading L.writing host.old) (host_state L.reading L.writing host.new)
         adr result }
     ensures header { sent_header host.new ≡ sent_header host.old }
     ensures other_end { L.other_end (link_of host.new) ≡ L.other_end (link_of host.old) }
 {
-    match host.read(alloc, adr) {
+    match host.read(adr) {
         Ok(HostAnswer::Done(word)) => Ok(word as u32),
         Ok(HostAnswer::Error) => Err(NoWord::BusError),
         Err(fault) => Err(NoWord::Cause(fault)),
@@ -91,7 +88,7 @@ impl<L: HostLink> WordReader for HostReader<L> {
         ensures reads { ReadsWord (host_state L.reading L.writing self.old.host)
             (host_state L.reading L.writing self.new.host) adr result }
     {
-        let word = ask(self.alloc, &mut self.host, adr);
+        let word = ask(&mut self.host, adr);
         self.asked.push(Exchange { adr, word });
         word
     }

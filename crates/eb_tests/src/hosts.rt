@@ -42,7 +42,7 @@ fn read_over(alloc: Global, replies: &[u8]) -> Result<HostAnswer, HostFault> {
         return Err(HostFault::NoMemory);
     };
     match open(link, alloc) {
-        Ok(mut host) => host.read(alloc, 0x10),
+        Ok(mut host) => host.read(0x10),
         Err(fault) => Err(fault),
     }
 }
@@ -73,7 +73,7 @@ fn one_read(rt: HostRuntime) -> Result<(), Fail> {
     let Ok(mut host) = open(link(alloc, &REPLIES)?, alloc) else {
         return Err(Fail::from("open"));
     };
-    assert_eq!(rt; host.read(alloc, 0x10), Ok(HostAnswer::Done(0xdead_beef)));
+    assert_eq!(rt; host.read(0x10), Ok(HostAnswer::Done(0xdead_beef)));
     let link = host.into_link();
     assert_eq!(rt; link.octets(), ASKED.as_slice());
     Ok(())
@@ -86,8 +86,8 @@ fn fault_is_kept(rt: HostRuntime) -> Result<(), Fail> {
     let Ok(mut host) = open(link(alloc, &REPLIES[0..40])?, alloc) else {
         return Err(Fail::from("open"));
     };
-    assert_eq!(rt; host.read(alloc, 0x10), Err(HostFault::Ended(40)));
-    assert_eq!(rt; host.root(alloc), Err(HostFault::Ended(40)));
+    assert_eq!(rt; host.read(0x10), Err(HostFault::Ended(40)));
+    assert_eq!(rt; host.root(), Err(HostFault::Ended(40)));
     let link = host.into_link();
     assert_eq!(rt; link.octets(), ASKED.as_slice());
     Ok(())
@@ -184,7 +184,7 @@ fn narrow_addresses(rt: HostRuntime) -> Result<(), Fail> {
         return Err(Fail::from("open"));
     };
     let wide = 0x1_0000_0000;
-    assert_eq!(rt; host.read(alloc, wide), Err(HostFault::TooWide(wide)));
+    assert_eq!(rt; host.read(wide), Err(HostFault::TooWide(wide)));
     let Ok(answers) = write_and_read(&mut host, alloc) else {
         return Err(Fail::from("cycle"));
     };
@@ -192,8 +192,8 @@ fn narrow_addresses(rt: HostRuntime) -> Result<(), Fail> {
         answers.as_slice(),
         [HostAnswer::Error, HostAnswer::Done(7)].as_slice()
     );
-    assert_eq!(rt; host.write(alloc, 0x10, 1), Ok(HostAnswer::Done(0)));
-    assert_eq!(rt; host.root(alloc), Ok(0x2_8000));
+    assert_eq!(rt; host.write(0x10, 1), Ok(HostAnswer::Done(0)));
+    assert_eq!(rt; host.root(), Ok(0x2_8000));
     Ok(())
 }
 
@@ -204,7 +204,7 @@ fn reader(link: MemLink, alloc: Global) -> Result<HostReader<MemLink>, HostFault
         ports: 4,
     };
     match Host::open(alloc, link, widths) {
-        Ok(host) => Ok(HostReader::new(alloc, host)),
+        Ok(host) => Ok(HostReader::new(host)),
         Err((_, fault)) => Err(fault),
     }
 }

@@ -42,9 +42,9 @@ fn write_and_read(rt: HostRuntime) -> Result<(), Fail> {
     let Ok(mut host) = open(alloc) else {
         return Err(Fail::from("open"));
     };
-    assert_eq!(rt; host.root(alloc), Ok(0x100));
-    assert_eq!(rt; host.write(alloc, 8, 7), Ok(HostAnswer::Done(0)));
-    assert_eq!(rt; host.read(alloc, 8), Ok(HostAnswer::Done(7)));
+    assert_eq!(rt; host.root(), Ok(0x100));
+    assert_eq!(rt; host.write(8, 7), Ok(HostAnswer::Done(0)));
+    assert_eq!(rt; host.read(8), Ok(HostAnswer::Done(7)));
     let link = host.into_link();
     assert_eq!(rt; link.session().errors(), 0);
     Ok(())
@@ -57,8 +57,8 @@ fn missing_address(rt: HostRuntime) -> Result<(), Fail> {
     let Ok(mut host) = open(alloc) else {
         return Err(Fail::from("open"));
     };
-    assert_eq!(rt; host.read(alloc, 4096), Ok(HostAnswer::Error));
-    assert_eq!(rt; host.read(alloc, 4092), Ok(HostAnswer::Done(0)));
+    assert_eq!(rt; host.read(4096), Ok(HostAnswer::Error));
+    assert_eq!(rt; host.read(4092), Ok(HostAnswer::Done(0)));
     let link = host.into_link();
     assert_eq!(rt; link.session().errors(), 0b10);
     Ok(())

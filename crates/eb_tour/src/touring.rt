@@ -43,11 +43,11 @@ pub fn tour_over<M: Master + Drop>(
         Ok(host) => host,
         Err(_) => return Err(NoMemory),
     };
-    let root = match host.root(alloc) {
+    let root = match host.root() {
         Ok(root) => root,
         Err(_) => return Err(NoMemory),
     };
-    let mut reader = HostReader::new(alloc, host);
+    let mut reader = HostReader::new(host);
     let found = discover(alloc, &mut reader, root);
     let link = reader.into_host().into_link();
     // Its session is on its course.

@@ -1,4 +1,4 @@
-use Rattle.std.proofs.Common.{refl, sym, ap, ◌∙◌, inr}
+use Rattle.std.proofs.Common.{arith, refl, sym, ap, ◌∙◌, inr}
 use Rattle.eb_base.specs.declared.width.Widths.{Widths}
 use Rattle.eb_host.specs.Exchange.{duplex}
 use Rattle.eb_host.specs.Host.{header}
@@ -22,6 +22,7 @@ returns-in-Ok-head g c = record {
       headed = c.in-Ok-head.ensures.heads;
     },
   );
+  room = omega (arith, c.in-Ok.ensures.room, c.in-Ok-head.ensures.room);
   other_end = c.in-Ok-head.ensures.other_end ∙ c.in-Ok.ensures.other_end;
 }
 
@@ -40,5 +41,6 @@ returns-in-Err-head g c = record {
     };
     headed = c.in-Err-head.ensures.heads;
   }));
+  room = omega (arith, c.in-Ok.ensures.room, c.in-Err-head.ensures.room);
   other_end = c.in-Err-head.ensures.other_end ∙ c.in-Ok.ensures.other_end;
 }
