@@ -89,6 +89,7 @@ runs = [
     ("answer --ram, records of a write and a read", ["answer", "--ram", "4096", capture("small", small)], size),
     ("answer DESC, records of a write and a read", ["answer", described, f"{work}/small"], size),
     ("build DESC, 4,094 records", ["build", described], 0),
+    ("tour DESC, 4,094 records", ["tour", described], 0),
     ("load 1 100000", ["load", "1", "100000"], 0),
 ]
 for title, command, octets in runs:

@@ -456,6 +456,140 @@ fn build(bus: &Json, base: u64, text: &mut String) {
     }
 }
 
+/// A slave of 64-bit addresses and a 32-bit port, which a host asks for words.
+struct Slave {
+    bus: Bus,
+    root: u64,
+    errors: u64,
+}
+
+fn number_at(octets: &[u8], at: usize) -> u64 {
+    u64::from_be_bytes(octets[at..at + 8].try_into().unwrap())
+}
+
+impl Slave {
+    /// The octets of configuration space at an address: the error register, then the root table's address.
+    fn configuration(&self, adr: u64) -> u32 {
+        let number = if adr & 8 == 0 { self.errors } else { self.root };
+        (number >> (32 - 8 * (adr & 4))) as u32
+    }
+
+    fn serve(&mut self, asked: &[u8], replies: &mut Vec<u8>) {
+        let mut at = 0;
+        while at < asked.len() {
+            let (flags, enable, writes, reads) = (asked[at], asked[at + 1], asked[at + 2], asked[at + 3] as usize);
+            if flags & 0x11 != 0 || enable > 15 || writes != 0 {
+                std::process::exit(6);
+            }
+            let back = (flags >> 5 & 4) | (flags >> 4 & 2) | (flags & 8);
+            replies.extend_from_slice(&[back, enable, reads as u8, 0, 0, 0, 0, 0]);
+            replies.extend_from_slice(&asked[at + 8..at + 16]);
+            for i in 0..reads {
+                let adr = number_at(asked, at + 16 + 8 * i);
+                let answer = if flags & 0x40 == 0 { self.bus.op(false, adr & !3, 0, enable) } else { Some(self.configuration(adr)) };
+                self.errors = self.errors << u64::from(flags & 0x40 == 0) | u64::from(answer.is_none());
+                replies.extend_from_slice(&u64::from(answer.unwrap_or(0)).to_be_bytes());
+            }
+            at += 16 + 8 * reads;
+        }
+    }
+}
+
+/// What discovery needs: the slave, the octets of one exchange, and the listing.
+struct Tour {
+    slave: Slave,
+    asked: Vec<u8>,
+    replies: Vec<u8>,
+    text: String,
+}
+
+fn ask(asked: &mut Vec<u8>, flags: u8, addresses: &[u64]) {
+    asked.extend_from_slice(&[flags, 15, 0, addresses.len() as u8, 0, 0, 0, 0, 0, 0, 0, 0, 0, 0, 0, 0]);
+    for address in addresses {
+        asked.extend_from_slice(&address.to_be_bytes());
+    }
+}
+
+/// A reply to so many reads at the front of the octets, with the flags, all lanes and the base 0.
+fn check(reply: &[u8], flags: u8, reads: u8) {
+    assert_eq!(reply[..4], [flags, 15, reads, 0]);
+    assert_eq!(reply[8..16], [0; 8]);
+}
+
+impl Tour {
+    fn exchange(&mut self) {
+        self.replies.clear();
+        self.slave.serve(&self.asked, &mut self.replies);
+    }
+
+    fn root(&mut self) -> u64 {
+        self.asked.clear();
+        ask(&mut self.asked, 0xC8, &[8, 12]);
+        self.exchange();
+        check(&self.replies, 0x0C, 2);
+        u64::from(word_at(&self.replies, 20)) << 32 | u64::from(word_at(&self.replies, 28))
+    }
+
+    /// A word, read as a cycle of its own.
+    fn word(&mut self, adr: u64) -> u32 {
+        self.asked.clear();
+        ask(&mut self.asked, 0x80, &[adr]);
+        ask(&mut self.asked, 0xC8, &[0, 4]);
+        self.exchange();
+        check(&self.replies, 0x04, 1);
+        check(&self.replies[24..], 0x0C, 2);
+        assert_eq!(self.replies[55] & 1, 0);
+        word_at(&self.replies, 20)
+    }
+
+    /// The records of the table at an address, in a bus from a base to a last address.
+    fn walk(&mut self, table: u64, base: u64, bus_last: u64, path: &str) {
+        use std::fmt::Write;
+        let (mut count, mut i) = (1, 0);
+        while i < count {
+            let mut record = [0; 64];
+            for (k, word) in record.chunks_mut(4).enumerate() {
+                word.copy_from_slice(&self.word(table + 64 * i + 4 * k as u64).to_be_bytes());
+            }
+            let (kind, first, last) = (record[0x3F], base + number_at(&record, 0x08), base + number_at(&record, 0x10));
+            let name = match kind {
+                0 if i == 0 && record[..4] == *b"SDB-" => "interconnect",
+                1 => "device",
+                2 => "bridge",
+                0x80 => "integration",
+                0xFF => "empty",
+                _ => std::process::exit(9),
+            };
+            write!(self.text, "{path}{i} {name}").unwrap();
+            if kind < 3 {
+                assert!(first <= last && last <= bus_last);
+                write!(self.text, " {first:016X}-{last:016X}").unwrap();
+            }
+            if kind != 0xFF {
+                let title = std::str::from_utf8(&record[0x2C..0x3F]).unwrap().trim_end();
+                let (device, version, date) = (word_at(&record, 0x20), word_at(&record, 0x24), word_at(&record, 0x28));
+                write!(self.text, " {:016X}:{device:08X} {version:08X} {date:08X} {title}", number_at(&record, 0x18)).unwrap();
+            }
+            self.text.push('\n');
+            if kind == 0 {
+                count = u64::from(u16::from_be_bytes([record[4], record[5]]));
+            }
+            if kind == 2 {
+                self.walk(base + number_at(&record, 0), first, last, &format!("{path}{i}."));
+            }
+            i += 1;
+        }
+    }
+}
+
+fn tour(bus: &Json) {
+    let slave = Slave { bus: bus_of(bus), root: bus.number("sdb", 0), errors: 0 };
+    let mut tour = Tour { slave, asked: Vec::with_capacity(64), replies: Vec::with_capacity(64), text: String::new() };
+    let root = tour.root();
+    tour.walk(root, 0, u64::MAX, "");
+    std::io::stdout().write_all(tour.text.as_bytes()).unwrap();
+}
+
 fn description(name: &str) -> Json {
     Reader { text: &std::fs::read(name).unwrap(), at: 0 }.value()
 }
@@ -475,6 +609,7 @@ fn main() {
             build(description(name).get("bus").unwrap(), 0, &mut text);
             std::io::stdout().write_all(text.as_bytes()).unwrap();
         }
+        ["tour", name] => tour(description(name).get("bus").unwrap()),
         ["load", start, count] => load(keeps, start.parse().unwrap(), count.parse().unwrap()),
         _ => std::process::exit(2),
     }

@@ -13,7 +13,7 @@ use Rattle.soc_discovery.specs.Tree.{tree_of}
 use Rattle.eb_host.specs.declared.op.HostFault.{HostFault}
 use Rattle.eb_loopback.specs.Joined.{LoopbackState}
 
--- Discovery found this tree, or there was no memory, or the host had none or its link failed.
+-- Discovery found this tree, or there was no memory for it, or the host had no answer.
 abbrev pub FindsUnlessStopped : List Found → Result (List Found) (WalkFault HostFault) → Type 0
 FindsUnlessStopped tree result = (result ≡ Ok tree) ⊎ ((result ≡ Err fault.NoMemory) ⊎ ((f : HostFault) × (result ≡ Err (fault.Reader f))))
 
