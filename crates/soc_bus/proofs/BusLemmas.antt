@@ -1,11 +1,12 @@
 -- The calls of a bus are the events of its core.
-use Rattle.std.proofs.Common.{◌≡◌, ◌≢◌, inl, inr, ℕ, zero, suc, ◌+◌, ◌<◌, ◌≤◌, List, [], ◌∷◌, ◌++◌, length, get_or, set, map, Bool, Result, Ok, Err, OnErr, refl, ap, sym, ◌∙◌, subst, arith, All}
+use Rattle.std.proofs.Common.{◌≡◌, ◌≢◌, inl, inr, ℕ, zero, suc, ◌+◌, ◌<◌, ◌≤◌, List, [], ◌∷◌, ◌++◌, length, get_or, set, map, Bool, Result, Ok, Err, OnErr, Option, refl, ap, sym, ◌∙◌, subst, arith, All}
 use Rattle.std.proofs.lemmas.List.{map-set, length-map, length-set, get_or-set_other, get_or-set_same, set-get_or, get_or_default}
 use Rattle.std.proofs.lemmas.List.Elements.{All-set}
 use Rattle.std.proofs.lemmas.Bool.{cases_eq}
 use Rattle.eb_base.specs.declared.width.Width.TheVariants.{W32}
 use Rattle.soc_desc.specs.declared.description.Description.{Description}
 use Rattle.wb_signals.specs.Request.{Request}
+use Rattle.wb_signals.specs.Bus.{Child}
 use Rattle.wb_signals.specs.Cycles.{paired, made_with}
 use Rattle.wb_signals.specs.History.{contents_after}
 use Rattle.wb_signals.specs.Slave.{Owed}
@@ -20,7 +21,8 @@ use Rattle.soc_core.specs.Built.{fabric_of}
 use Rattle.soc_core.specs.Core.{Idle, Wants, Leaves, CorePort, Core, port, resting_port, unloaded, with_port, with_phase, with_load, with_taken, raised, loaded, taken, released, turn, wants, held, granted_from, granted, clocked, clocked_core, all_sent, pending, CanRaise, CanLoad, CanTake, CanRelease, IsTick}
 use Rattle.soc_core.specs.Sound.{StandsIn, IsSoundCore, HasSpare}
 use Rattle.soc_bus.specs.View.{CycleView, states, rooms, with_queue, joined, BusState, bus_state, IsBus, IsMadeOf, wanting}
-use Rattle.soc_bus.specs.Clocked.{driven_rows, sampled_all, holders_from, AreServed}
+use Rattle.soc_bus.specs.Clocked.{driven_rows, sampled_all, AreServed}
+use Rattle.soc_wave.specs.Shown.{port_row, holders_from, ShowsTick}
 use Rattle.soc_core.proofs.Events.{unloaded_is, answered_is, raise_sound, load_sound, take_sound}
 use Rattle.soc_core.proofs.Releases.{release_sound}
 use Rattle.soc_core.proofs.Grants.{granted_sound}
@@ -30,6 +32,7 @@ use Rattle.soc_bus.proofs.CycleLists.{length-granted}
 use Rattle.soc_bus.proofs.ServedLemmas.{length-sampled, length-rows, length-owed}
 use Rattle.soc_bus.proofs.Joined.{joined-set, joined-get, joined-granted, joined-held, joined-wants, joined-clocked, joined-passed, Matches}
 use Rattle.soc_bus.proofs.Serving.{served, matching}
+use Rattle.soc_bus.proofs.ShownLemmas.{rows_shown, holders_shown}
 use Rattle.soc_machine.specs.Described.{described_wiring}
 
 abbrev pub no_cycle : CycleView
@@ -407,6 +410,24 @@ module _ (d : Description) (x : CrossbarState) (cs : List CycleView) (ps : List 
 
       pub tick_is : IsTick f core (bus_state d x3 cs2 ps3 arb2 j).core
       tick_is = record { grant = grant; first = arb2.first; is_grant = grant_is; is_next = next_is; core = tick_core }
+
+      -- what the clock shows
+      tick_rows : rows ≡ map (port_row f) mid.ports
+      tick_rows =
+          rows_are ∙ ap (λ w. rows_after w x.owed (driven_rows (states cs2) ps)) made.wiring
+          ∙ rows_shown f (states cs2) ps x.owed tick_matches (long_ports ∙ sym long_mid) (long_owed ∙ sym long_mid)
+          ∙ ap (map (port_row f)) (sym mid_ports)
+
+      tick_holders : holders_from (states cs2) 0 (length x.children) ≡ holders_from mid.ports 0 f.slaves
+      tick_holders =
+          holders_shown (states cs2) ps x.owed 0 (length x.children) (long_ports ∙ sym long_mid) (long_owed ∙ sym long_mid)
+          ∙ ap (λ qs. holders_from qs 0 (length x.children)) (sym mid_ports)
+          ∙ ap (λ (children : List Child). holders_from mid.ports 0 (length children)) made.slaves
+
+      pub tick_shows : (holders : List (Option ℕ)) → holders ≡ holders_from (states cs2) 0 (length x.children)
+          → ShowsTick f core (bus_state d x3 cs2 ps3 arb2 j).core (record { ports = rows; holders = holders })
+      unfolding tick_is
+      tick_shows holders are = (tick_is, λ i. record { ports = tick_rows i; holders = (are ∙ tick_holders) i })
 
       pub tick_bus : rooms cs2 ≡ rooms cs → IsBus (bus_state d x3 cs2 ps3 arb2 j)
       tick_bus same_rooms =

@@ -5,7 +5,7 @@ use Rattle.std.proofs.lemmas.Bool.{cond-true, cond-false}
 use Rattle.std.proofs.lemmas.List.{take_more_set, drop_more, drop_all}
 use Rattle.soc_core.specs.Core.{CorePort, resting_port, held_by}
 use Rattle.soc_bus.specs.View.{CycleView, states}
-use Rattle.soc_bus.specs.Clocked.{holder_from, holders_from}
+use Rattle.soc_wave.specs.Shown.{holder_from, holders_from}
 
 -- ---- as they are computed
 

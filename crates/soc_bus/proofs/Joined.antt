@@ -13,8 +13,8 @@ use Rattle.soc_core.specs.Fabric.{Fabric}
 use Rattle.soc_core.specs.Core.{CorePort, resting_port, granted_from, held, held_by, wants_of, head_of, offered, unless_stalled, sent_now, clocked, all_sent}
 use Rattle.soc_core.specs.Sound.{is_busy_phase}
 use Rattle.soc_bus.specs.View.{with_queue, joined}
-use Rattle.soc_bus.specs.Clocked.{driving, driven_rows, has_passed, answer_in, sampled_all}
-use Rattle.soc_bus.proofs.ServedLemmas.{answer_in-row, has_passed-row}
+use Rattle.soc_bus.specs.Clocked.{driving, driven_rows, is_sent, answer_got, sampled_all}
+use Rattle.soc_bus.proofs.ServedLemmas.{answer_got-row, is_sent-row}
 
 pub joined-set : (cs : List CorePort) (ps : List engine.PortState) (os : List (List Owed)) (m : ℕ) (c : CorePort) (p : engine.PortState)
     → joined (set cs m c) (set ps m p) os ≡ set (joined cs ps os) m (with_queue c p (get_or os m []))
@@ -110,12 +110,12 @@ one_got None xs = append-nil xs
 one_got (Some a) xs = refl
 
 pub clocked_is : (f : Fabric) (contents : List Content) (c : CorePort) (p : engine.PortState) (o : List Owed) (cyc : Bool) → p.depth ≡ f.depth → length p.answers + length o ≡ p.passed
-    → with_queue c (engine.sampled p (has_passed (row_after f.wiring o (driving cyc (engine.driven p)))) (answer_in (row_after f.wiring o (driving cyc (engine.driven p)))))
+    → with_queue c (engine.sampled p (is_sent (row_after f.wiring o (driving cyc (engine.driven p)))) (answer_got (row_after f.wiring o (driving cyc (engine.driven p)))))
     (owed_after f.wiring contents o (passes f.wiring o (driving cyc (engine.driven p)))) ≡ clocked f contents (with_queue c p o)
 clocked_is f contents c p o cyc deep count =
     let same = passed_is f c p o cyc deep count in
-    let sent = ap (λ b. engine.one_more b p.passed) (has_passed-row f.wiring o cyc (engine.driven p)) ∙ ap (λ op. engine.one_more (is_some op) p.passed) (sym same) ∙ sym (one_sent (sent_now f (with_queue c p o)) p.passed) in
-    let got = ap (engine.answers_with p.answers) (answer_in-row (given o) _) ∙ sym (one_got (given o) p.answers) in
+    let sent = ap (λ b. engine.one_more b p.passed) (is_sent-row f.wiring o cyc (engine.driven p)) ∙ ap (λ op. engine.one_more (is_some op) p.passed) (sym same) ∙ sym (one_sent (sent_now f (with_queue c p o)) p.passed) in
+    let got = ap (engine.answers_with p.answers) (answer_got-row (given o) _) ∙ sym (one_got (given o) p.answers) in
     λ i. record { phase = c.phase; opened = c.opened; loaded = p.loaded; sent = sent i; got = got i; owed = owed_after f.wiring contents o (sym same i) }
 
 pub joined-clocked : (f : Fabric) (contents : List Content) (cs : List CorePort) (ps : List engine.PortState) (os : List (List Owed)) → Matches f.depth ps os

@@ -2,6 +2,7 @@ pub mod RowLemmas
 pub mod ServedLemmas
 pub mod CycleLists
 pub mod Joined
+pub mod ShownLemmas
 pub mod Holders
 pub mod Serving
 pub mod BusLemmas

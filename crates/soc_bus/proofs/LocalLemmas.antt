@@ -18,7 +18,7 @@ use Rattle.eb_base.specs.declared.width.Width.TheVariants.{W32}
 use Rattle.wb_signals.specs.Cycles.{AllFitBus, Asks, paired, made_after, opened_after, pairs_added}
 use Rattle.wb_signals.proofs.CycleLemmas.{added-some}
 use Rattle.soc_core.specs.Fabric.{Fabric, IsFabric, AllGoIn, IsIn}
-use Rattle.soc_core.specs.Core.{Idle, Wants, Holds, Leaves, CorePort, Core, port, unloaded, with_load, with_taken, phase_after, raised, loaded, taken, released, raised_of, pending, CanRaise, CanLoad, CanRelease, IsTick}
+use Rattle.soc_core.specs.Core.{Idle, Wants, Holds, Leaves, CorePort, Core, port, built_core, unloaded, with_load, with_taken, phase_after, raised, loaded, taken, released, raised_of, pending, CanRaise, CanLoad, CanRelease, IsTick}
 use Rattle.soc_core.specs.Sound.{StandsIn, IsSoundCore}
 use Rattle.soc_bus.specs.Local.{AllIdle, IsOpen, IsRecorded, IsLocal, MadeLegal, made_since, cycles_since, all_slaves}
 use Rattle.soc_core.proofs.Ports.{port_same, port_other}
@@ -26,6 +26,10 @@ use Rattle.soc_core.specs.Run.{IsRun}
 use Rattle.soc_core.proofs.Bounds.{port-tick, alone_bit}
 use Rattle.soc_core.proofs.Events.{raise_sound}
 use Rattle.soc_core.proofs.Releases.{release_sound}
+use Rattle.soc_core.proofs.Ticks.{each_idle}
+use Rattle.soc_core.proofs.BuiltLemmas.{described_fabric}
+use Rattle.soc_desc.specs.Accepted.{IsAccepted}
+use Rattle.soc_desc.specs.declared.description.Description.{Description}
 
 module _ (f : Fabric) (ok : IsFabric f) (old new : Core) (s : IsSoundCore f old) (t : IsTick f old new) where
   phase-tick : (n : ℕ) → (port new n).phase ≡ phase_after (bit_at t.grant n == 1) (port old n).phase
@@ -311,3 +315,15 @@ err_then (Err e) f p = f p
 pub none_of : (b : Bool) (ps : List Pair) → b ≡ false → IsTrue b ↔ (ps ≢ []) → ps ≡ []
 none_of b [] fails h = refl
 none_of b (p ∷ ps) fails h = absurd (let holds : b ≡ true = h.1 (λ e. absurd (let never : p ∷ ps ≡ [] = e in cc)) in cc)
+
+-- ---- the port of a bus as it is built
+
+-- It has made no entry, and no cycle is open.
+pub built_cycles : (d : Description) → IsAccepted d → (began now : BusState) (m : ℕ) → began.core ≡ built_core (fabric_of d) → now.core ≡ built_core (fabric_of d)
+    → cycles_since began now m ≡ record { made = []; opened = [] }
+built_cycles d accepted began now m was is =
+    let none : (port (built_core (fabric_of d)) m).opened ≡ [] =
+    each_idle (fabric_of d) (described_fabric d accepted.masters_least accepted.depth_least) (λ (p : CorePort). p.opened ≡ []) refl m in
+    let made : made_since began now ≡ [] = ap (λ (c : Core). drop (length c.journal) now.core.journal) was ∙ ap (λ (c : Core). c.journal) is in
+    let opened : (port now.core m).opened ≡ [] = ap (λ (c : Core). (port c m).opened) is ∙ none in
+    λ i. record { made = made i; opened = opened i }

@@ -8,7 +8,7 @@ use Rattle.wb_signals.specs.declared.port_row.PortRow.{PortRow}
 use Rattle.wb_port.specs.Port.{PortState, driven, sampled}
 use Rattle.soc_core.specs.Core.{CorePort as Cycle, resting_port}
 use Rattle.soc_core.specs.Sound.{is_busy_phase}
-use Rattle.soc_bus.specs.Clocked.{driving, driven_rows, has_passed, answer_in, sampled_all, AreOperations}
+use Rattle.soc_bus.specs.Clocked.{driving, driven_rows, is_sent, answer_got, sampled_all, AreOperations}
 use Rattle.wb_crossbar.proofs.TickLemmas.{no_row}
 use Rattle.wb_signals.proofs.TurnLemmas.{number_cases}
 
@@ -62,29 +62,29 @@ driven_all cycs ports rows i a l d = rows_are cycs ports rows a d.count (λ m h.
 
 pub record Sampled (ports0 : List PortState) (rows : List PortRow) (ports : List PortState) (i : ℕ) : Type 0 where
   pub count : length ports ≡ length ports0
-  pub done : (m : ℕ) → m < i → get_or ports m no_port ≡ sampled (get_or ports0 m no_port) (has_passed (get_or rows m no_row)) (answer_in (get_or rows m no_row))
+  pub done : (m : ℕ) → m < i → get_or ports m no_port ≡ sampled (get_or ports0 m no_port) (is_sent (get_or rows m no_row)) (answer_got (get_or rows m no_row))
   pub later : (m : ℕ) → i ≤ m → get_or ports m no_port ≡ get_or ports0 m no_port
 
 pub samples : (ports0 : List PortState) (rows : List PortRow) (ports : List PortState) (i : ℕ) (p : PortState) → i < length ports → Sampled ports0 rows ports i
-    → p ≡ sampled (get_or ports i no_port) (has_passed (get_or rows i no_row)) (answer_in (get_or rows i no_row)) → Sampled ports0 rows (set ports i p) (i + 1)
+    → p ≡ sampled (get_or ports i no_port) (is_sent (get_or rows i no_row)) (answer_got (get_or rows i no_row)) → Sampled ports0 rows (set ports i p) (i + 1)
 samples ports0 rows ports i p l d e = record {
   count = length-set ports i p ∙ d.count;
   done = λ m h. elim (one_more i m h) [
-    | inl s ↦ subst (λ m. get_or (set ports i p) m no_port ≡ sampled (get_or ports0 m no_port) (has_passed (get_or rows m no_row)) (answer_in (get_or rows m no_row))) (sym s)
-        (get_or-set_same ports i p no_port l ∙ e ∙ ap (λ q. sampled q (has_passed (get_or rows i no_row)) (answer_in (get_or rows i no_row))) (d.later i (omega arith)))
+    | inl s ↦ subst (λ m. get_or (set ports i p) m no_port ≡ sampled (get_or ports0 m no_port) (is_sent (get_or rows m no_row)) (answer_got (get_or rows m no_row))) (sym s)
+        (get_or-set_same ports i p no_port l ∙ e ∙ ap (λ q. sampled q (is_sent (get_or rows i no_row)) (answer_got (get_or rows i no_row))) (d.later i (omega arith)))
     | inr b ↦ get_or-set_other ports i m p no_port (λ s. omega (arith, s, b)) ∙ d.done m b
   ];
   later = λ m h. get_or-set_other ports i m p no_port (λ s. omega (arith, s, h)) ∙ d.later m (omega arith);
 }
 
 ports_are : (ports0 : List PortState) (rows : List PortRow) (ports : List PortState) → length rows ≡ length ports0 → length ports ≡ length ports0
-    → ((m : ℕ) → m < length ports0 → get_or ports m no_port ≡ sampled (get_or ports0 m no_port) (has_passed (get_or rows m no_row)) (answer_in (get_or rows m no_row))) → ports ≡ sampled_all ports0 rows
+    → ((m : ℕ) → m < length ports0 → get_or ports m no_port ≡ sampled (get_or ports0 m no_port) (is_sent (get_or rows m no_row)) (answer_got (get_or rows m no_row))) → ports ≡ sampled_all ports0 rows
 ports_are [] rows [] a b h = refl
 ports_are [] rows (x ∷ xs) a b h = absurd (omega (arith, b))
 ports_are (p ∷ ports0) [] ports a b h = absurd (omega (arith, a))
 ports_are (p ∷ ports0) (r ∷ rows) [] a b h = absurd (omega (arith, b))
 ports_are (p ∷ ports0) (r ∷ rows) (x ∷ xs) a b h =
-    let first : x ≡ sampled p (has_passed r) (answer_in r) = h 0 (omega arith) in
+    let first : x ≡ sampled p (is_sent r) (answer_got r) = h 0 (omega arith) in
     let more : xs ≡ sampled_all ports0 rows = ports_are ports0 rows xs (omega (arith, a)) (omega (arith, b)) (λ m l. h (suc m) (omega arith)) in
     cc
 

@@ -22,7 +22,7 @@ use Rattle.wb_port.specs.Port.{PortState, unanswered, driven, sampled}
 use Rattle.soc_core.specs.Core.{CorePort as Cycle}
 use Rattle.soc_core.specs.Sound.{is_busy_phase}
 use Rattle.wb_crossbar.specs.Crossbar.{CrossbarState, wiring_of, IsHeldBy, CanTick, rows_after, owed_after_all}
-use Rattle.soc_bus.specs.Clocked.{driving, driven_rows, has_passed, answer_in, sampled_all, waiting, place_of, IsServed, AreServed, AreOperations}
+use Rattle.soc_bus.specs.Clocked.{driving, driven_rows, is_sent, answer_got, sampled_all, waiting, place_of, IsServed, AreServed, AreOperations}
 
 -- ---- rows
 
@@ -30,11 +30,11 @@ pub asked-driving : (cyc : Bool) (op : Option Request) → asked (driving cyc op
 asked-driving cyc None = refl
 asked-driving cyc (Some r) = refl
 
-pub answer_in-row : (answer : Option Answer) (row : PortRow) → answer_in (with_answer answer row) ≡ answer
-answer_in-row None row = refl
-answer_in-row (Some (Ack word)) row = refl
-answer_in-row (Some Err) row = refl
-answer_in-row (Some Rty) row = refl
+pub answer_got-row : (answer : Option Answer) (row : PortRow) → answer_got (with_answer answer row) ≡ answer
+answer_got-row None row = refl
+answer_got-row (Some (Ack word)) row = refl
+answer_got-row (Some Err) row = refl
+answer_got-row (Some Rty) row = refl
 
 stb-row : (answer : Option Answer) (row : PortRow) → (with_answer answer row).stb ≡ row.stb
 stb-row None row = refl
@@ -54,13 +54,13 @@ passed_by cyc None false e = refl
 passed_by cyc (Some r) true e = refl
 passed_by cyc (Some r) false e = refl
 
-waits_none : (wiring : Wiring) (owed : List Owed) (cyc : Bool) (op : Option Request) → has_passed (row_after wiring owed (driving cyc op)) ≡ is_some (unless (is_waiting wiring owed op) op)
+waits_none : (wiring : Wiring) (owed : List Owed) (cyc : Bool) (op : Option Request) → is_sent (row_after wiring owed (driving cyc op)) ≡ is_some (unless (is_waiting wiring owed op) op)
 waits_none wiring owed cyc op =
     let row : PortRow = record (driving cyc op) { stall = is_waiting wiring owed (asked (driving cyc op)) } in
     rw (stb-row (given owed) row, stall-row (given owed) row, asked-driving cyc op) (passed_by cyc op (is_waiting wiring owed op) (asked-driving cyc op))
 
-pub has_passed-row : (wiring : Wiring) (owed : List Owed) (cyc : Bool) (op : Option Request) → has_passed (row_after wiring owed (driving cyc op)) ≡ is_some (passes wiring owed (driving cyc op))
-has_passed-row wiring owed cyc op = waits_none wiring owed cyc op ∙ rw (asked-driving cyc op) refl
+pub is_sent-row : (wiring : Wiring) (owed : List Owed) (cyc : Bool) (op : Option Request) → is_sent (row_after wiring owed (driving cyc op)) ≡ is_some (passes wiring owed (driving cyc op))
+is_sent-row wiring owed cyc op = waits_none wiring owed cyc op ∙ rw (asked-driving cyc op) refl
 
 -- ---- what a port drives
 
@@ -162,7 +162,7 @@ owed_after_at wiring contents (o ∷ os) (r ∷ rows) zero now e = (o, r, refl, 
 owed_after_at wiring contents (o ∷ os) (r ∷ rows) (suc m) now e = owed_after_at wiring contents os rows m now e
 
 pub sampled_at : (ports : List PortState) (rows : List PortRow) (m : ℕ) (now : PortState) → slice_get (sampled_all ports rows) m ≡ Some now
-    → (p : PortState) × (row : PortRow) × (slice_get ports m ≡ Some p) × (slice_get rows m ≡ Some row) × (now ≡ sampled p (has_passed row) (answer_in row))
+    → (p : PortState) × (row : PortRow) × (slice_get ports m ≡ Some p) × (slice_get rows m ≡ Some row) × (now ≡ sampled p (is_sent row) (answer_got row))
 sampled_at [] rows m now e = absurd (cc)
 sampled_at (p ∷ ports) [] m now e = absurd (cc)
 sampled_at (p ∷ ports) (r ∷ rows) zero now e = (p, r, refl, refl, cc)
@@ -213,20 +213,20 @@ module _ (x : CrossbarState) (holders : List (Option ℕ)) (cycs : List Cycle) (
     row_is : row ≡ row_after (wiring_of x) at_row.0 (driving at_port.0 (driven at_port.1))
     row_is = at_row.4 ∙ ap (row_after (wiring_of x) at_row.0) at_port.3
 
-    pub passed_is : has_passed row ≡ is_some (passes (wiring_of x) at_row.0 (driving at_port.0 (driven at_port.1)))
-    passed_is = ap has_passed row_is ∙ has_passed-row (wiring_of x) at_row.0 at_port.0 (driven at_port.1)
+    pub passed_is : is_sent row ≡ is_some (passes (wiring_of x) at_row.0 (driving at_port.0 (driven at_port.1)))
+    passed_is = ap is_sent row_is ∙ is_sent-row (wiring_of x) at_row.0 at_port.0 (driven at_port.1)
 
-    pub answer_is : answer_in row ≡ given at_row.0
-    answer_is = ap answer_in row_is ∙ answer_in-row (given at_row.0) _
+    pub answer_is : answer_got row ≡ given at_row.0
+    answer_is = ap answer_got row_is ∙ answer_got-row (given at_row.0) _
 
-    pub can_pass : (p : PortState) → slice_get ports m ≡ Some p → has_passed row ≡ true → driven p ≢ None
+    pub can_pass : (p : PortState) → slice_get ports m ≡ Some p → is_sent row ≡ true → driven p ≢ None
     can_pass p f t n =
         let same : p ≡ at_port.1 = same_some ports m p at_port.1 f at_port.2 in
         let none : driven at_port.1 ≡ None = ap driven (sym same) ∙ n in
-        let off : has_passed row ≡ false = passed_is ∙ ap (λ op. is_some (passes (wiring_of x) at_row.0 (driving at_port.0 op))) none in
+        let off : is_sent row ≡ false = passed_is ∙ ap (λ op. is_some (passes (wiring_of x) at_row.0 (driving at_port.0 op))) none in
         cc
 
-    pub can_answer : (p : PortState) → slice_get ports m ≡ Some p → is_some (answer_in row) ≡ true → length p.answers < p.passed
+    pub can_answer : (p : PortState) → slice_get ports m ≡ Some p → is_some (answer_got row) ≡ true → length p.answers < p.passed
     can_answer p f t =
         let v = s.each m p at_row.0 f at_row.2 in
         let some = given-some at_row.0 (ap is_some (sym answer_is) ∙ t) in

@@ -19,7 +19,8 @@ use Rattle.soc_core.specs.Built.{top_slaves, fabric_of}
 use Rattle.soc_core.specs.Core.{Phase, Idle, Wants, Holds, Leaves, CorePort, Core, port, resting_port, held_by}
 use Rattle.soc_core.specs.Sound.{StandsIn, IsQueue, IsSoundCore}
 use Rattle.soc_bus.specs.View.{with_queue, joined}
-use Rattle.soc_bus.specs.Clocked.{holders_from, place_of, waiting, AreServed}
+use Rattle.soc_bus.specs.Clocked.{place_of, waiting, AreServed}
+use Rattle.soc_wave.specs.Shown.{holders_from}
 use Rattle.soc_core.proofs.Ports.{no_common}
 use Rattle.soc_core.proofs.Clocks.{loaded_goes}
 use Rattle.soc_bus.proofs.Holders.{count-holders, held_at}

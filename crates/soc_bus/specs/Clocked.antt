@@ -1,6 +1,5 @@
 -- One clock of the ports of a bus: what they drive, and what they make of the slaves' answers.
 use Rattle.std.specs.Prelude.{◌≡◌, ◌≤◌, ℕ, zero, suc, ◌==◌, Bool, true, false, if◌then◌else◌, ◌&&◌, not, List, [], ◌∷◌, length, map, take, drop, slice_get, Option, Some, None, All}
-use Rattle.std.specs.Int.{bit_at}
 use Rattle.wb_signals.specs.Request.{Request, IsRequest}
 use Rattle.wb_signals.specs.Cycles.{FitsBus}
 use Rattle.wb_signals.specs.Slave.{Owed, queue_to}
@@ -12,7 +11,7 @@ use Rattle.wb_signals.specs.declared.port_row.PortRow.{PortRow}
 use Rattle.wb_crossbar.specs.Crossbar.{CrossbarState, wiring_of, IsHeldBy}
 use Rattle.wb_port.specs.Port as engine
 use Rattle.wb_port.specs.Port.{driven, sampled}
-use Rattle.soc_core.specs.Core.{CorePort, held_by}
+use Rattle.soc_core.specs.Core.{CorePort}
 use Rattle.soc_core.specs.Sound.{is_busy_phase}
 
 -- The row of a port that drives this operation, or none, in a cycle or not.
@@ -27,11 +26,11 @@ driven_rows [] (p ∷ ports) = []
 driven_rows (c ∷ cycles) (p ∷ ports) = driving (is_busy_phase c.phase) (driven p) ∷ driven_rows cycles ports
 
 -- What a row says of its request, and its answer.
-abbrev pub has_passed : PortRow → Bool
-has_passed row = row.stb && not row.stall
+abbrev pub is_sent : PortRow → Bool
+is_sent row = row.stb && not row.stall
 
-abbrev pub answer_in : PortRow → Option Answer
-answer_in row =
+abbrev pub answer_got : PortRow → Option Answer
+answer_got row =
     if row.ack
     then Some (Ack row.read)
     else (if row.err then Some Err else (if row.rty then Some Rty else None))
@@ -39,18 +38,7 @@ answer_in row =
 abbrev pub sampled_all : List engine.PortState → List PortRow → List engine.PortState
 sampled_all [] rows = []
 sampled_all (p ∷ ports) [] = []
-sampled_all (p ∷ ports) (row ∷ rows) = sampled p (has_passed row) (answer_in row) ∷ sampled_all ports rows
-
--- ---- who holds the top slaves
-
--- the first port that holds a top slave, from the one with number m on
-abbrev pub holder_from : ℕ → List CorePort → ℕ → Option ℕ
-holder_from m [] slave = None
-holder_from m (p ∷ ports) slave = if bit_at (held_by p.phase) slave == 1 then Some m else holder_from (suc m) ports slave
-
-abbrev pub holders_from : List CorePort → ℕ → ℕ → List (Option ℕ)
-holders_from ports slave zero = []
-holders_from ports slave (suc n) = holder_from 0 ports slave ∷ holders_from ports (suc slave) n
+sampled_all (p ∷ ports) (row ∷ rows) = sampled p (is_sent row) (answer_got row) ∷ sampled_all ports rows
 
 -- ---- the condition of a clock
 

@@ -6,6 +6,7 @@ ghost use Rattle.wb_port.specs.Port.{idle_port as idle_engine};
 ghost use Rattle.soc_core.specs.Built.{fabric_of, set_of_cycle};
 ghost use Rattle.wb_signals.specs.Cycles.{made_with};
 ghost use Rattle.soc_core.specs.Core.{Core, port, resting_port, resting_ports, built_core, is_idle, is_granted, pending, raised, loaded, taken, released, granted_from, held, wants_of, CanRaise, CanLoad, CanTake, CanRelease, IsTick};
+ghost use Rattle.soc_wave.specs.Shown.{ShowsTick};
 ghost use Rattle.soc_bus.specs.Local.{AllIdle};
 ghost use Rattle.soc_bus.specs.Ledger.{AddsOwn, KeepsLedger};
 ghost use Rattle.soc_bus.specs.View.{IsBus, states, rooms, sets_given, sets_wanted, wanting};
@@ -201,6 +202,13 @@ impl<R: BusRecorder> Bus<R> {
         enter(&mut self.journal, m, cut, pairs);
     }
 
+    /// How many top slaves it has.
+    pub fn slaves(&self) -> usize
+        ensures { result ≡ (fabric_of self.now.description).slaves }
+    {
+        self.crossbar.slaves()
+    }
+
     /// One tick. The ports that wait are granted by the arbiter's rule. Then each port that holds its set drives its
     /// next operation, the crossbar passes what isn't stalled, and each port gets the answer that is due.
     pub fn tick(&mut self)
@@ -208,18 +216,31 @@ impl<R: BusRecorder> Bus<R> {
         ensures tick { IsTick (fabric_of self.old.description) self.old.core self.new.core }
         ensures description { self.new.description ≡ self.old.description }
     {
-        let _grant = grant_all(&mut self.arbiter, &mut self.cycles);
         let ports = self.ports.len();
         let slaves = self.crossbar.slaves();
         let mut rows = [PortRow::none(); 16];
         let mut holders = [None; 128];
+        self.tick_showing(&mut rows[..ports], &mut holders[..slaves]);
+    }
+
+    /// One tick, which shows the signals of the ports in its clock, and who holds each top slave.
+    pub fn tick_showing(&mut self, rows: &mut [PortRow], holders: &mut [Option<u8>])
+        requires rows { length rows.old ≡ self.old.description.masters }
+        requires holders { length holders.old ≡ (fabric_of self.old.description).slaves }
+        ensures keeps { KeepsLedger self.old self.new }
+        ensures shows { ShowsTick (fabric_of self.old.description) self.old.core self.new.core
+            (record { ports = rows.new; holders = holders.new }) }
+        ensures description { self.new.description ≡ self.old.description }
+        ensures rows { length rows.new ≡ length rows.old }
+        ensures holders { length holders.new ≡ length holders.old }
+    {
+        let _grant = grant_all(&mut self.arbiter, &mut self.cycles);
         clock(
             &mut self.crossbar,
             &self.cycles,
             &mut self.ports,
-            &mut rows[..ports],
-            slaves,
-            &mut holders,
+            rows,
+            holders,
         );
     }
 }

@@ -1,5 +1,5 @@
 //! One clock of all ports.
-ghost use Rattle.std.specs.Prelude.{◌≡◌, ◌≢◌, ◌≤◌, ◌<◌, ◌==◌, ℕ, Some, None, true, length, slice_get, take};
+ghost use Rattle.std.specs.Prelude.{◌≡◌, ◌≢◌, ◌≤◌, ◌<◌, ◌==◌, ℕ, Some, None, true, length, slice_get};
 ghost use Rattle.std.specs.Int.{bit_at};
 ghost use Rattle.std.specs.Option.{is_some};
 ghost use Rattle.wb_signals.specs.Request.{Request, IsRequest};
@@ -11,7 +11,8 @@ ghost use Rattle.wb_crossbar.specs.Crossbar.{wiring_of, rows_after, after_tick};
 ghost use Rattle.wb_crossbar.specs.Inside.{crossbar_of, IsCrossbar};
 ghost use Rattle.soc_core.specs.Core.{held_by};
 ghost use Rattle.soc_bus.specs.View.{states};
-ghost use Rattle.soc_bus.specs.Clocked.{driving, driven_rows, has_passed, answer_in, sampled_all, holder_from, holders_from, AreServed, AreOperations};
+ghost use Rattle.soc_bus.specs.Clocked.{driving, driven_rows, is_sent, answer_got, sampled_all, AreServed, AreOperations};
+ghost use Rattle.soc_wave.specs.Shown.{holder_from, holders_from};
 
 use crate::cycle::Cycle;
 use crate::recorder::PairRecorder;
@@ -26,41 +27,38 @@ pub fn clock<P: PairRecorder>(
     cycles: &[Cycle<P>],
     ports: &mut Vec<Port>,
     rows: &mut [PortRow],
-    slaves: usize,
     holders: &mut [Option<u8>],
 )
     requires sound { IsCrossbar node_slave IsSound crossbar.old }
     requires served { AreServed (crossbar_of node_slave crossbar.old)
-        (holders_from (states cycles.now) 0 slaves) ports.old.items }
+        (holders_from (states cycles.now) 0 (length holders.old)) ports.old.items }
     requires cycles { length cycles.now ≡ length ports.old.items }
     requires rows { length rows.old ≡ length ports.old.items }
     requires few { length cycles.now ≤ 16 }
-    requires slaves { slaves ≤ length holders.old }
-    requires most { slaves ≤ 128 }
+    requires most { length holders.old ≤ 128 }
     ensures rows { rows.new ≡ rows_after (wiring_of (crossbar_of node_slave crossbar.old))
         (crossbar_of node_slave crossbar.old).owed (driven_rows (states cycles.now) ports.old.items) }
-    ensures holders { take slaves holders.new ≡ holders_from (states cycles.now) 0 slaves }
+    ensures holders { holders.new ≡ holders_from (states cycles.now) 0 (length holders.old) }
     ensures length { length holders.new ≡ length holders.old }
     ensures crossbar { crossbar_of node_slave crossbar.new
         ≡ after_tick (crossbar_of node_slave crossbar.old) (driven_rows (states cycles.now) ports.old.items) }
     ensures sound { IsCrossbar node_slave IsSound crossbar.new }
     ensures ports { ports.new.items ≡ sampled_all ports.old.items rows.new }
 {
-    hold_all(cycles, slaves, holders);
+    hold_all(cycles, holders);
     drive_all(cycles, ports, rows);
-    crossbar.tick(rows, &holders[..slaves]);
+    crossbar.tick(rows, holders);
     sample_all(ports, rows);
 }
 
 /// The port that holds each top slave.
-fn hold_all<P: PairRecorder>(cycles: &[Cycle<P>], slaves: usize, holders: &mut [Option<u8>])
+fn hold_all<P: PairRecorder>(cycles: &[Cycle<P>], holders: &mut [Option<u8>])
     requires few { length cycles.now ≤ 16 }
-    requires slaves { slaves ≤ length holders.old }
-    requires most { slaves ≤ 128 }
-    ensures holders { take slaves holders.new ≡ holders_from (states cycles.now) 0 slaves }
+    requires most { length holders.old ≤ 128 }
+    ensures holders { holders.new ≡ holders_from (states cycles.now) 0 (length holders.old) }
     ensures length { length holders.new ≡ length holders.old }
 {
-    for i in 0..slaves {
+    for i in 0..holders.len() {
         holders[i] = holder_of(cycles, i);
     }
 }
@@ -124,8 +122,8 @@ fn drive_all<P: PairRecorder>(cycles: &[Cycle<P>], ports: &[Port], rows: &mut [P
     }
 }
 
-fn answer_in(row: &PortRow) -> Option<Answer>
-    ensures answer { result ≡ answer_in row.now }
+fn answer_got(row: &PortRow) -> Option<Answer>
+    ensures answer { result ≡ answer_got row.now }
 {
     if row.ack {
         Some(Answer::Ack(row.read))
@@ -138,8 +136,8 @@ fn answer_in(row: &PortRow) -> Option<Answer>
     }
 }
 
-fn has_passed(row: &PortRow) -> bool
-    ensures passed { result ≡ has_passed row.now }
+fn is_sent(row: &PortRow) -> bool
+    ensures passed { result ≡ is_sent row.now }
 {
     row.stb && !row.stall
 }
@@ -148,13 +146,13 @@ fn has_passed(row: &PortRow) -> bool
 fn sample_all(ports: &mut Vec<Port>, rows: &[PortRow])
     requires rows { length rows.now ≡ length ports.old.items }
     requires passes { (m : ℕ) (p : PortState) (row : PortRow) → slice_get ports.old.items m ≡ Some p
-        → slice_get rows.now m ≡ Some row → has_passed row ≡ true → driven p ≢ None }
+        → slice_get rows.now m ≡ Some row → is_sent row ≡ true → driven p ≢ None }
     requires answers { (m : ℕ) (p : PortState) (row : PortRow) → slice_get ports.old.items m ≡ Some p
-        → slice_get rows.now m ≡ Some row → is_some (answer_in row) ≡ true → length p.answers < p.passed }
+        → slice_get rows.now m ≡ Some row → is_some (answer_got row) ≡ true → length p.answers < p.passed }
     ensures ports { ports.new.items ≡ sampled_all ports.old.items rows.now }
 {
     for m in 0..ports.len() {
         let row = &rows[m];
-        ports[m].sample(has_passed(row), answer_in(row));
+        ports[m].sample(is_sent(row), answer_got(row));
     }
 }

@@ -1,12 +1,12 @@
 -- What a tick shows of the ports.
-use Rattle.std.specs.Prelude.{ℕ, zero, suc, ◌==◌, Bool, true, false, if◌then◌else◌, List, [], ◌∷◌, map, is_some, Option, Some, None}
+use Rattle.std.specs.Prelude.{◌≡◌, ℕ, zero, suc, ◌==◌, Bool, true, false, if◌then◌else◌, List, [], ◌∷◌, map, is_some, Option, Some, None}
 use Rattle.std.specs.Int.{bit_at}
 use Rattle.wb_signals.specs.Request.{Request}
 use Rattle.wb_signals.specs.declared.answer.Answer.{Answer}
 use Rattle.wb_signals.specs.declared.answer.Answer.TheVariants.{Ack, Err, Rty}
 use Rattle.soc_core.specs.Fabric.{Fabric}
 use Rattle.wb_signals.specs.Slave.{Owed, given, is_stalled}
-use Rattle.soc_core.specs.Core.{CorePort, offered, held_by}
+use Rattle.soc_core.specs.Core.{CorePort, Core, IsTick, offered, held_by, granted_from}
 use Rattle.soc_core.specs.Sound.{is_busy_phase}
 use Rattle.wb_signals.specs.declared.port_row.PortRow.{PortRow}
 use Rattle.wb_signals.specs.Wave.{WaveRowState}
@@ -89,3 +89,7 @@ holders_from ports slave (suc n) = holder_from 0 ports slave ∷ holders_from po
 -- The row of a tick: the ports after its grants.
 abbrev pub row_of : Fabric → List CorePort → WaveRowState
 row_of f ports = record { ports = map (port_row f) ports; holders = holders_from ports 0 f.slaves }
+
+-- A tick shows this row.
+abbrev pub ShowsTick : Fabric → Core → Core → WaveRowState → Type 0
+ShowsTick f old new row = (tick : IsTick f old new) × (row ≡ row_of f (granted_from tick.grant 0 old.ports))
