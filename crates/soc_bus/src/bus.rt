@@ -6,6 +6,7 @@ ghost use Rattle.wb_port.specs.Port.{idle_port as idle_engine};
 ghost use Rattle.soc_core.specs.Built.{fabric_of, set_of_cycle};
 ghost use Rattle.wb_signals.specs.Cycles.{made_with};
 ghost use Rattle.soc_core.specs.Core.{Core, port, resting_port, resting_ports, built_core, is_idle, is_granted, pending, raised, loaded, taken, released, granted_from, held, wants_of, CanRaise, CanLoad, CanTake, CanRelease, IsTick};
+ghost use Rattle.soc_core.specs.Sound.{is_busy_phase};
 ghost use Rattle.soc_wave.specs.Shown.{ShowsTick};
 ghost use Rattle.soc_bus.specs.Local.{AllIdle};
 ghost use Rattle.soc_bus.specs.Ledger.{AddsOwn, KeepsLedger};
@@ -120,6 +121,30 @@ impl<R: BusRecorder> Bus<R> {
         self.cycles[m as usize].is_granted()
     }
 
+    /// How many ports it has.
+    pub fn masters(&self) -> u8
+        ensures masters { result ≡ self.now.description.masters }
+        ensures few { result ≤ 16 }
+    {
+        self.ports.len() as u8
+    }
+
+    /// Whether a port's CYC stands.
+    pub fn busy(&self, m: u8) -> bool
+        requires within { m < self.now.description.masters }
+        ensures busy { result ≡ is_busy_phase (port self.now.core m).phase }
+    {
+        self.cycles[m as usize].is_busy()
+    }
+
+    /// How many operations a port has loaded.
+    pub fn loaded(&self, m: u8) -> usize
+        requires within { m < self.now.description.masters }
+        ensures loaded { result ≡ length (port self.now.core m).loaded }
+    {
+        self.ports[m as usize].loaded()
+    }
+
     /// How many of a port's loaded operations have no answer.
     pub fn pending(&self, m: u8) -> usize
         requires within { m < self.now.description.masters }
@@ -204,7 +229,7 @@ impl<R: BusRecorder> Bus<R> {
 
     /// How many top slaves it has.
     pub fn slaves(&self) -> usize
-        ensures { result ≡ (fabric_of self.now.description).slaves }
+        ensures slaves { result ≡ (fabric_of self.now.description).slaves }
     {
         self.crossbar.slaves()
     }
