@@ -69,8 +69,8 @@ pub record LacksMemory (old new : HostState) (ops : List HostOp) (result : Resul
   pub declines : Declines old new result fault.NoMemory
 
 -- A cycle of operations that takes memory for its answers.
-abbrev pub Cycles : HostState → HostState → List HostOp → Result (List HostAnswer) HostFault → Type 0
-Cycles old new ops result = RunsCycle old new ops result ⊎ LacksMemory old new ops result
+abbrev pub CallsCycle : HostState → HostState → List HostOp → Result (List HostAnswer) HostFault → Type 0
+CallsCycle old new ops result = RunsCycle old new ops result ⊎ LacksMemory old new ops result
 
 -- the answers of a result
 abbrev pub given : Result (Vec HostAnswer) HostFault → Result (List HostAnswer) HostFault

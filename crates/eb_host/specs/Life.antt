@@ -10,7 +10,7 @@ use Rattle.eb_host.specs.declared.op.HostFault.{HostFault}
 use Rattle.eb_host.specs.declared.op.HostFault.TheVariants as fault
 use Rattle.eb_host.specs.Asks.{asks, closing, cycle_records}
 use Rattle.eb_host.specs.Exchange.{Duplex}
-use Rattle.eb_host.specs.Host.{HostState, Cycles, ReadsRoot}
+use Rattle.eb_host.specs.Host.{HostState, CallsCycle, ReadsRoot}
 use Rattle.eb_host.specs.Opening.{probe_asks, Opened}
 
 -- A call after the opening, with its answer. A read and a write are cycles of one operation, which take no memory.
@@ -20,7 +20,7 @@ pub data HostCall : Type 0 where
 
 -- The call leads from the one to the other.
 abbrev pub Does : HostState → HostCall → HostState → Type 0
-Does old (CycleCall ops result) new = Cycles old new ops result
+Does old (CycleCall ops result) new = CallsCycle old new ops result
 Does old (RootCall result) new = ReadsRoot old new result
 
 -- The calls lead from the one to the other.

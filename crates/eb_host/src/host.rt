@@ -7,14 +7,14 @@ ghost use Rattle.eb_codec.specs.Form.{Fills};
 ghost use Rattle.eb_host.specs.Asks.{FitsOp, asks, expects, closing, cycle_records};
 ghost use Rattle.eb_host.specs.Answers.{answered, joined, FitsPort};
 ghost use Rattle.eb_host.specs.Exchange.{duplex};
-ghost use Rattle.eb_host.specs.Host.{too_wide as too_wide_in, header as header_with, Sends, Calls, CallFails, RunsCycle, Cycles, ReadsRoot, root_in, given, alone};
+ghost use Rattle.eb_host.specs.Host.{too_wide as too_wide_in, header as header_with, Sends, Calls, CallFails, RunsCycle, CallsCycle, ReadsRoot, root_in, given, alone};
 ghost use Rattle.eb_host.specs.Opening.{Opened, NotOpened};
 ghost use Rattle.eb_host.specs.View.{link_of, sent_header, host_state};
 
 use crate::link::HostLink;
 use crate::op::{HostAnswer, HostFault, HostOp};
 use crate::replies::{answer, closing_at, joined_at, next_at, op_word, put_answers};
-use crate::rooms::Rooms;
+use crate::rooms::HostRooms;
 use eb_base::{NoMemory, Width, Widths};
 use eb_codec::Header;
 use eb_codec::sizes::unit_len;
@@ -31,7 +31,7 @@ pub struct Host<L> {
     port: Width,
     read: u64,
     fault: Option<HostFault>,
-    rooms: Rooms,
+    rooms: HostRooms,
 }
 
 // Whether an address has no more bits than the width.
@@ -78,7 +78,7 @@ impl<L: HostLink> Host<L> {
         ensures other_end { MatchResult result (λ host. L.other_end (link_of host) ≡ L.other_end link)
             (λ e. L.other_end e.0 ≡ L.other_end link) }
     {
-        let mut rooms = match Rooms::new(alloc) {
+        let mut rooms = match HostRooms::new(alloc) {
             Ok(rooms) => rooms,
             Err(NoMemory) => return Err((link, HostFault::NoMemory)),
         };
@@ -173,7 +173,7 @@ impl<L: HostLink> Host<L> {
         requires least { 0 < length ops.now }
         requires most { length ops.now ≤ 64 }
         requires fit { All (λ op. op.dat < 256 ^ octets (sent_header self.old).port) ops.now }
-        ensures cycle { Cycles (host_state L.reading L.writing self.old) (host_state L.reading L.writing self.new)
+        ensures cycle { CallsCycle (host_state L.reading L.writing self.old) (host_state L.reading L.writing self.new)
             ops.now (given result) }
         ensures count { IfOk result (λ answers. length answers.items ≡ length ops.now) }
         ensures words { IfOk result (λ answers. All (FitsPort (sent_header self.old)) answers.items) }

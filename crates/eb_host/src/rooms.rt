@@ -18,13 +18,13 @@ use eb_codec::Header;
 use std::alloc::Global;
 
 // The most octets of a request and of its replies, both those of 64 operations: a record of 24 octets for each, and
-// one of 80 that ends the cycle. A head, a base and a word have 8 octets each where addresses or words have 64 bits, and
-// the last record has 8 words where the port has 8 bits.
+// one of 80 that ends the cycle. A head, a base and a word have 8 octets each where addresses or words have 64 bits,
+// and the last record has 8 words where the port has 8 bits.
 const MOST: usize = 64 * 24 + 80;
 
 /// Rooms for the longest request and for its replies, which are taken once.
 #[derive(Drop)]
-pub struct Rooms {
+pub struct HostRooms {
     asks: Vec<u8>,
     expected: Vec<Option<u8>>,
     heard: Vec<u8>,
@@ -34,10 +34,10 @@ pub struct Rooms {
     ghost short: { length expected.items ≤ 1616 },
 }
 
-impl Rooms {
+impl HostRooms {
     // Rooms in which nothing stands.
-    pub fn new(alloc: Global) -> Result<Rooms, NoMemory> {
-        Ok(Rooms {
+    pub fn new(alloc: Global) -> Result<HostRooms, NoMemory> {
+        Ok(HostRooms {
             asks: Vec::with_capacity(alloc, MOST)?,
             expected: Vec::with_capacity(alloc, MOST)?,
             heard: Vec::with_capacity(alloc, MOST)?,
