@@ -4,3 +4,4 @@ pub mod SpelledLemmas
 pub mod AnsweredLemmas
 pub mod CauseLemmas
 pub mod TourLemmas
+pub mod PortLemmas

@@ -13,9 +13,8 @@ use eb_loopback::Loopback;
 use eb_reader::HostReader;
 use eb_session::{Session, Slave};
 use sdb_walk::{Tree, WalkFault, discover};
+use soc_bus::{Bus, Local, Unkept};
 use soc_desc::Description;
-use soc_machine::{Machine, PlainMaster};
-use soc_trail::Unkept;
 use std::alloc::Global;
 use wb_signals::Master;
 
@@ -64,7 +63,7 @@ fn slave_at(root: u64) -> Slave
     Slave { bus, root }
 }
 
-// What discovery came to on the machine of a description.
+// What discovery came to on a port of a description's bus.
 fn found_on(
     alloc: Global,
     description: &Description,
@@ -72,17 +71,16 @@ fn found_on(
     requires accepted { IsAccepted description.now }
     ensures found { IfOk result (FindsUnlessStopped (tree_of description.now)) }
 {
-    let machine = Machine::build(alloc, description)?;
+    let mut bus = Bus::build(alloc, Unkept::new(), description)?;
     let session = Session::new(alloc, slave_at(description.bus.sdb))?;
-    let master = PlainMaster::new(alloc, Unkept::new(), machine, 0);
-    let (found, link) = tour_over(alloc, Loopback::new(alloc, session, master))?;
-    // The entries of its master are a legal history.
-    let _ = link.master().recorder();
+    let port = Local::new(alloc, &mut bus, 0);
+    let (found, link) = tour_over(alloc, Loopback::new(alloc, session, port))?;
+    link.master().entries_are_legal();
     Ok(found)
 }
 
-/// The tree of an accepted description, as discovery through a host and a session in memory finds it on the machine
-/// that is built from the description.
+/// The tree of an accepted description, as discovery through a host and a session in memory finds it on a port of the
+/// bus that is built from the description.
 ///
 /// A write to the link that failed counts as want of memory.
 pub fn tour_described(alloc: Global, description: &Description) -> Result<Tree, NoMemory>

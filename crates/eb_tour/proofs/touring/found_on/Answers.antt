@@ -1,21 +1,30 @@
-use Rattle.std.proofs.Common.{◌≡◌, ap, ◌∙◌, subst}
-use Rattle.wb_signals.specs.Cycles.{Identity}
-use Rattle.wb_signals.specs.History.{IsLegal}
+use Rattle.std.proofs.Common.{◌≡◌, ap, ◌∙◌}
+use Rattle.eb_base.specs.declared.width.Width.TheVariants.{W32}
+use Rattle.wb_signals.specs.Cycles.{MasterCycles}
 use Rattle.eb_session.specs.Keeping.{SessionState}
-use Rattle.soc_machine.specs.Machine.{MachineState, wiring_of, built_described}
-use Rattle.soc_machine.specs.Plain.{PlainState}
-use Rattle.eb_loopback.specs.Joined.{LoopbackState}
+use Rattle.soc_bus.specs.View.{BusState}
+use Rattle.soc_bus.specs.Local.{LocalOrigin, made_since}
+use Rattle.soc_bus.proofs.LocalLemmas.{built_cycles}
+use Rattle.eb_tour.proofs.PortLemmas.{built_legal, legal_of}
 use Rattle.eb_tour.proofs.touring.found_on.Goals as goal
 
 pub returns : goal.returns
 returns c =
     let d = c.args.description.now in
-    let slave : c.new-3.result.session.slave ≡ record { bus = _; root = d.bus.sdb } =
-    ap (λ (l : LoopbackState PlainState). l.session.slave) c.new-3.ensures.new ∙ ap (λ (s : SessionState). s.slave) c.in_ok-session.ensures.fresh ∙ c.slave_at.ensures.slave in
-    let master : c.new-3.result.master ≡ c.new-master.result = ap (λ (l : LoopbackState PlainState). l.master) c.new-3.ensures.new in
-    let began : c.in_ok-found.link.master.began ≡ built_described d =
-    ap (λ (i : Identity MachineState). i.kept) c.in_ok-found.ensures.identity ∙ ap (λ (p : PlainState). p.began) master ∙ ap (λ (p : PlainState). p.began) c.new-master.ensures.master ∙ c.in_ok-machine.ensures.machine in
-    let own : IsLegal (wiring_of c.in_ok-found.link.master.began) c.in_ok-found.link.master.began.contents c.in_ok-found.link.master.made =
-    subst (λ (p : PlainState). IsLegal (wiring_of p.began) p.began.contents p.made) c.master.ensures.master c.recorder.ensures.legal in
-    let legal = subst (λ (m : MachineState). IsLegal (wiring_of m) m.contents c.in_ok-found.link.master.made) began own in
+    let port = c.new-port.result in
+    let began = c.new-3.result.master in
+    let left = c.in_ok-found.link.master in
+    let first : c.new-3.result.session.slave ≡ c.in_ok-session.session.slave = λ i. (c.new-3.ensures.new i).session.slave in
+    let slave : c.new-3.result.session.slave ≡ record { bus = W32; root = d.bus.sdb } = first ∙ ap (λ (s : SessionState). s.slave) c.in_ok-session.ensures.fresh ∙ c.slave_at.ensures.slave in
+    let kept : LocalOrigin = record { began = left.began.value; description = left.bus.now.description } in
+    let came : LocalOrigin = record { began = port.began.value; description = port.bus.now.description } in
+    let there : record { began = began.began.value; description = began.bus.now.description } ≡ came =
+    λ i. record { began = (c.new-3.ensures.new i).master.began.value; description = (c.new-3.ensures.new i).master.bus.now.description } in
+    let same : kept ≡ came = (λ i. (c.in_ok-found.ensures.identity i).kept) ∙ there in
+    let of_ = ap (λ (b : BusState). b.description) c.new-port.ensures.now ∙ c.in_ok-bus.ensures.description in
+    let built = ap (λ (b : BusState). b.core) c.new-port.ensures.began ∙ c.in_ok-bus.ensures.core in
+    let at_first : c.master.result.now.began.value ≡ left.began.value = λ i. (c.master.ensures.master i).began.value in
+    let at_last : c.master.result.now.bus.now ≡ left.bus.now = λ i. (c.master.ensures.master i).bus.now in
+    let own = legal_of c.master.result.now.began.value left.began.value c.master.result.now.bus.now left.bus.now at_first at_last c.entries_are_legal.ensures.legal in
+    let legal = built_legal d kept came (made_since left.began.value left.bus.now) same of_ built own in
     record { found = c.in_ok-found.ensures.tours d c.requires.accepted slave c.slave_at.ensures.low legal }
