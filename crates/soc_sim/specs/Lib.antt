@@ -1,0 +1,4 @@
+pub mod Watched
+pub mod Todos
+pub mod Steps
+pub mod Laws
