@@ -462,7 +462,7 @@ module _ (f : Fabric) (fits : IsFabric f) (script : List ScriptLine) (all : AllL
   todo_at m k zero is (suc c) lt = let e : k ≡ m = omega (arith, is) in ap (λ (j : ℕ). own_lines j script) e
   todo_at m k (suc n) is (suc c) lt = todo_at m (suc k) n (omega (arith, is)) c (omega (arith, lt))
 
-  length-todos : (k c : ℕ) → length (todos_from script k c) ≡ c
+  pub length-todos : (k c : ℕ) → length (todos_from script k c) ≡ c
   length-todos k zero = refl
   length-todos k (suc c) = ap (λ (n : ℕ). suc n) (length-todos (suc k) c)
 
@@ -471,7 +471,7 @@ module _ (f : Fabric) (fits : IsFabric f) (script : List ScriptLine) (all : AllL
   idle_at (suc n) zero = refl
   idle_at (suc n) (suc m) = idle_at n m
 
-  own_start : (m : ℕ) → m < f.ports → Seen m (built_core f) (slice_index_or (todos_from script 0 f.ports) m [])
+  pub own_start : (m : ℕ) → m < f.ports → Seen m (built_core f) (slice_index_or (todos_from script 0 f.ports) m [])
   own_start m lt = (
     0,
     subst (λ (p : CorePort). OwnAs f (cycles m) p (slice_index_or (todos_from script 0 f.ports) m []) 0 p.phase) (sym (idle_at f.ports m))
@@ -484,13 +484,13 @@ module _ (f : Fabric) (fits : IsFabric f) (script : List ScriptLine) (all : AllL
 
   -- ---- the bound of a run
 
-  own_next : (t : ℕ) (todos : List (List ScriptLine)) (old new : Core) → length todos ≡ f.ports → I old → ((m : ℕ) → m < f.ports → Seen m old (todo_of todos m)) → IsTick f (prepared_from f t 0 todos old) new
+  pub own_next : (t : ℕ) (todos : List (List ScriptLine)) (old new : Core) → length todos ≡ f.ports → I old → ((m : ℕ) → m < f.ports → Seen m old (todo_of todos m)) → IsTick f (prepared_from f t 0 todos old) new
       → (m : ℕ) → m < f.ports → Seen m new (todo_of (left_from 0 todos old) m)
   own_next t todos old new count i seen tick m lt =
       let p = see_all t 0 todos old (omega (arith, count)) i (λ j n is below. let e : j ≡ n = omega (arith, is) in subst (λ (l : ℕ). Seen j old (slice_index_or todos l [])) e (seen j (omega (arith, e, below, count)))) in
       seen_tick (prepared_from f t 0 todos old) new m (todo_of (left_from 0 todos old) m) lt p.kept tick (p.seen m m (omega arith) (omega (arith, lt, count)))
 
-  kept_next : (t : ℕ) (todos : List (List ScriptLine)) (old new : Core) → length todos ≡ f.ports → I old → ((m : ℕ) → m < f.ports → Seen m old (todo_of todos m)) → IsTick f (prepared_from f t 0 todos old) new → I new
+  pub kept_next : (t : ℕ) (todos : List (List ScriptLine)) (old new : Core) → length todos ≡ f.ports → I old → ((m : ℕ) → m < f.ports → Seen m old (todo_of todos m)) → IsTick f (prepared_from f t 0 todos old) new → I new
   kept_next t todos old new count i seen tick =
       let p = see_all t 0 todos old (omega (arith, count)) i (λ j n is below. let e : j ≡ n = omega (arith, is) in subst (λ (l : ℕ). Seen j old (slice_index_or todos l [])) e (seen j (omega (arith, e, below, count)))) in
       tick_keeps (prepared_from f t 0 todos old) new p.kept tick
@@ -525,7 +525,7 @@ module _ (f : Fabric) (fits : IsFabric f) (script : List ScriptLine) (all : AllL
 -- ---- a bus on clocks
 
 module _ (f : Fabric) (fits : IsFabric f) where
-  sound_kept : IsKept f (IsSoundCore f)
+  pub sound_kept : IsKept f (IsSoundCore f)
   sound_kept = record {
     sound = λ core i. i;
     raise = λ core m set i can. event_sound f fits (Raise m set) core (raised core m set) i (can, refl);
@@ -534,7 +534,7 @@ module _ (f : Fabric) (fits : IsFabric f) where
     release = λ core m cut i can. event_sound f fits (Release m cut) core (released core m cut) i (can, refl);
   }
 
-  tick_moves : (old new : Core) → IsSoundCore f old → IsTick f old new → Moves f old new
+  pub tick_moves : (old new : Core) → IsSoundCore f old → IsTick f old new → Moves f old new
   tick_moves old new sound tick = record {
     grant = tick.grant;
     phase = λ m lt. ap (λ (p : CorePort). p.phase) (port-tick f fits old new sound tick m);

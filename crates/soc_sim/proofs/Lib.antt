@@ -1,0 +1,6 @@
+mod TodoLemmas
+mod WatchedLemmas
+mod MayLemmas
+mod Preparing
+mod UnderWay
+mod LineLaws

@@ -46,7 +46,7 @@ impl<'a> Todos<'a> {
         ensures next { MatchOption result (slice_index_or self.now m [] ≡ [])
             (λ line. slice_index_or self.now m [] ≡ line.now ∷ after_first (slice_index_or self.now m [])) }
     {
-        let at = self.places[usize::from(m)];
+        let at = self.places[m as usize];
         if at < self.lines.len() {
             Some(&self.lines[at])
         } else {
@@ -54,14 +54,15 @@ impl<'a> Todos<'a> {
         }
     }
 
-    /// Goes on behind the next line of a master that has one.
+    /// Goes on behind the next line of a master, if it has one.
     pub fn advance(&mut self, m: u8)
         requires within { m < length self.old }
-        requires some { slice_index_or self.old m [] ≢ [] }
         ensures next { self.new ≡ slice_set self.old m (after_first (slice_index_or self.old m [])) }
     {
-        let at = self.places[usize::from(m)];
-        self.places[usize::from(m)] = first_place(self.lines, m, at + 1);
+        let at = self.places[m as usize];
+        if at < self.lines.len() {
+            self.places[m as usize] = first_place(self.lines, m, at + 1);
+        }
     }
 }
 
@@ -72,9 +73,10 @@ fn first_place(lines: &[ScriptLine], m: u8, from: usize) -> usize
     ensures first { BeginsWithOwn m (drop result lines.now) }
     ensures own { own_lines m (drop result lines.now) ≡ own_lines m (drop from lines.now) }
 {
-    for at in from..lines.len() {
-        if lines[at].master == m {
-            return at;
+    for i in from..lines.len() {
+        let line = &lines[i];
+        if line.master == m {
+            return i;
         }
     }
     lines.len()

@@ -1,8 +1,9 @@
 //! A bus that is watched.
-ghost use Rattle.std.specs.Prelude.{◌≡◌, ◌≤◌, ◌-◌, [], length, max, OnOk, OnErr};
+ghost use Rattle.std.specs.Prelude.{◌≡◌, ◌≤◌, ◌-◌, ◌++◌, ◌∷◌, [], length, max, OnOk, OnErr};
 ghost use Rattle.soc_core.specs.Built.{fabric_of};
 ghost use Rattle.soc_core.specs.Core.{built_core, raised, loaded, taken, released, CanRaise, CanLoad, CanTake, CanRelease};
 ghost use Rattle.soc_core.specs.Events.{Tick};
+ghost use Rattle.soc_wave.specs.Shown.{ShowsTick};
 ghost use Rattle.soc_bus.specs.View.{IsBus};
 ghost use Rattle.soc_sim.specs.Watched.{IsWatched, LeadsOn};
 
@@ -172,6 +173,17 @@ fn add_tick<R: BusRecorder>(
     holders: &mut [Option<u8>],
 )
     requires spare { 1 ≤ wave.old.spare }
+    requires ports { wave.old.ports ≡ bus.old.description.masters }
+    requires slaves { wave.old.slaves ≡ (fabric_of bus.old.description).slaves }
+    requires rows { length rows.old ≡ bus.old.description.masters }
+    requires holders { length holders.old ≡ (fabric_of bus.old.description).slaves }
+    ensures shows { ShowsTick (fabric_of bus.old.description) bus.old.core bus.new.core
+        (record { ports = rows.new; holders = holders.new }) }
+    ensures added { wave.new ≡ record wave.old {
+      rows = wave.old.rows ++ record { ports = rows.new; holders = holders.new } ∷ [];
+      spare = wave.old.spare - 1;
+    } }
+    ensures description { bus.new.description ≡ bus.old.description }
 {
     bus.tick_showing(rows, holders);
     wave.add(rows, holders);
