@@ -1,10 +1,11 @@
 -- The lines that masters haven't done, by places.
 use Rattle.std.proofs.Common.{◌≡◌, ◌≢◌, ℕ, zero, suc, ◌+◌, ◌<◌, ◌≤◌, ◌==◌, Bool, true, false, List, [], ◌∷◌, ◌++◌, length, drop, refl, sym, ap, ◌∙◌, subst, arith}
-use Rattle.std.specs.Prelude.{slice_index_or, slice_set}
+use Rattle.std.specs.Prelude.{slice_index_or, slice_set, Option, Some, None, is_none, MatchOption}
 use Rattle.std.proofs.lemmas.List.{drop_more, get_or_default, set-get_or}
 use Rattle.std.proofs.Math.ListN.{drop_of_length-le}
 use Rattle.soc_script.specs.Script.{ScriptLine}
 use Rattle.soc_script.specs.Cycles.{own_lines, put_if}
+use Rattle.soc_wave.proofs.PortRows.{true_false, false_true}
 use Rattle.soc_script_wave.specs.Runner.{todos_from}
 use Rattle.soc_script_wave.specs.Work.{after_first}
 use Rattle.soc_sim.specs.Todos.{todos_at, BeginsWithOwn, AreOwnPlaces}
@@ -112,3 +113,13 @@ module _ (script : List ScriptLine) (places : List ℕ) (todos : List (List Scri
   nothing_behind le =
       let none = none_is le in
       sym (ap (λ ls. slice_set todos m (after_first ls)) none ∙ ap (λ ls. slice_set todos m ls) (sym none) ∙ set-get_or todos m [])
+
+-- ---- whether a master has a next line
+
+pub at_none : {A : Type 0} (P : Type 0) (Q : A → Type 0) (o : Option A) → MatchOption o P Q → is_none o ≡ true → P
+at_none P Q None m is = m
+at_none P Q (Some x) m is = absurd (false_true is)
+
+pub at_some : {A : Type 0} (P : Type 0) (Q : A → Type 0) (o : Option A) → MatchOption o P Q → is_none o ≡ false → (x : A) × Q x
+at_some P Q None m is = absurd (true_false is)
+at_some P Q (Some x) m is = (x, m)

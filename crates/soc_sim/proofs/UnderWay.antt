@@ -1,16 +1,19 @@
 -- A script under way: what the clocks so far leave to do.
-use Rattle.std.proofs.Common.{◌≡◌, ℕ, zero, suc, ◌+◌, ◌<◌, ◌≤◌, Bool, true, false, List, [], ◌∷◌, ◌++◌, length, refl, sym, ap, ◌∙◌, subst, arith, length-append}
+use Rattle.std.proofs.Common.{◌≡◌, ℕ, zero, suc, ◌+◌, ◌-◌, ◌<◌, ◌≤◌, Bool, true, false, List, [], ◌∷◌, ◌++◌, length, refl, sym, ap, ◌∙◌, subst, arith, length-append}
 use Rattle.std.specs.Prelude.{slice_index_or}
 use Rattle.soc_desc.specs.declared.description.Description.{Description}
+use Rattle.soc_desc.specs.Accepted.{IsAccepted}
 use Rattle.soc_core.specs.Fabric.{Fabric, IsFabric}
 use Rattle.soc_core.specs.Built.{fabric_of}
 use Rattle.wb_signals.specs.Wave.{WaveRowState}
 use Rattle.soc_core.specs.Core.{Core, port, built_core, granted_from}
 use Rattle.soc_core.specs.Sound.{IsSoundCore}
+use Rattle.soc_core.proofs.BuiltLemmas.{described_fabric}
 use Rattle.soc_core.proofs.Ticks.{built_sound, tick_sound}
 use Rattle.soc_wave.specs.Arbitration.{Granting}
 use Rattle.soc_wave.specs.Shown.{row_of}
-use Rattle.soc_wave.specs.Laws.{Watched}
+use Rattle.soc_core.specs.Events.{Tick}
+use Rattle.soc_wave.specs.Laws.{Watched, AddsRow}
 use Rattle.soc_script.specs.Script.{ScriptLine}
 use Rattle.soc_script_wave.specs.Sets.{AllLines}
 use Rattle.soc_script_wave.specs.Work.{all_work, latest}
@@ -19,7 +22,7 @@ use Rattle.soc_script_wave.specs.ScriptOwn.{OwnIsAsked}
 use Rattle.soc_script_wave.specs.ScriptLaws.{RanScript}
 use Rattle.soc_script_wave.proofs.Scripted.{script_is_shown, length-left}
 use Rattle.soc_script_wave.proofs.OwnScript.{script_is_run, script_is_over, sound_kept, tick_moves, own_start, own_next, kept_next, length-todos}
-use Rattle.soc_sim.specs.Watched.{WatchedState, with_grants}
+use Rattle.soc_sim.specs.Watched.{WatchedState, with_grants, LeadsOn}
 use Rattle.soc_sim.specs.Steps.{MayAllPrepare, LeadsToClock}
 use Rattle.soc_sim.specs.Laws.{ShowsScript}
 use Rattle.soc_sim.proofs.MayLemmas.{FollowsLines, may_all}
@@ -118,3 +121,51 @@ module _ (f : Fabric) (fits : IsFabric f) (script : List ScriptLine) (all : AllL
         own_asked =
             let r = u.runs 0 new.core (over, clock.adds.tick) in
             script_is_run f fits script all r.0 new.core r.1
+
+-- ---- on the bus of a description
+
+module _ (d : Description) (accepted : IsAccepted d) (script : List ScriptLine) (all : AllLines (fabric_of d) script) where
+  fits : IsFabric (fabric_of d)
+  fits = described_fabric d accepted.masters_least accepted.depth_least
+
+  pub begins_on : (w : WatchedState) (todos : List (List ScriptLine)) → w.core ≡ built_core (fabric_of d) → w.rows ≡ [] → todos ≡ all_todos (fabric_of d) script → IsUnderWay (fabric_of d) script todos w
+  begins_on w todos built none is = subst (λ ls. IsUnderWay (fabric_of d) script ls w) (sym is) (begins (fabric_of d) fits script all w built none)
+
+  module _ (todos : List (List ScriptLine)) (old : WatchedState) (same : old.description ≡ d) (u : IsUnderWay (fabric_of d) script todos old) where
+    pub may_on : MayAllPrepare (fabric_of old.description) (length old.rows) 0 todos old.core
+    may_on = subst (λ e. MayAllPrepare (fabric_of e) (length old.rows) 0 todos old.core) (sym same) (may_clock (fabric_of d) fits script all todos old u)
+
+    pub count_on : length todos ≡ old.description.masters
+    count_on = u.count ∙ ap (λ (e : Description). e.masters) (sym same)
+
+    module _ (new : WatchedState) (leads : LeadsToClock todos old new) (over : Bool)
+        (is : over ≡ is_over 0 (left_from 0 todos old.core) (prepared_from (fabric_of old.description) (length old.rows) 0 todos old.core)) where
+      clock : IsClock (fabric_of d) (length old.rows) todos (with_grants old u.grants) (with_grants new (leads u.grants).0)
+      clock = subst (λ e. IsClock (fabric_of e) (length old.rows) todos (with_grants old u.grants) (with_grants new (leads u.grants).0)) same (leads u.grants).1
+
+      over_is : over ≡ is_over 0 (left_from 0 todos old.core) (prepared_from (fabric_of d) (length old.rows) 0 todos old.core)
+      over_is = subst (λ e. over ≡ is_over 0 (left_from 0 todos old.core) (prepared_from (fabric_of e) (length old.rows) 0 todos old.core)) same is
+
+      pub goes_on_to : over ≡ false → (todos_then : List (List ScriptLine)) → todos_then ≡ left_from 0 todos old.core → IsUnderWay (fabric_of d) script todos_then new
+      goes_on_to not_over todos_then left =
+          subst (λ ls. IsUnderWay (fabric_of d) script ls new) (sym left)
+          (goes_on (fabric_of d) fits script all todos old u new (leads u.grants).0 clock (sym over_is ∙ not_over))
+
+      pub fewer_left : suc (most_clocks (fabric_of d) script) - length new.rows < suc (most_clocks (fabric_of d) script) - length old.rows
+      fewer_left = omega (arith, still_below (fabric_of d) fits script all todos old u new (leads u.grants).0 clock, within_most (fabric_of d) fits script all todos old u)
+
+      pub ends_with : over ≡ true → new.description ≡ old.description → ShowsScript script new × OwnIsAsked (fabric_of new.description) script new.core
+      ends_with is_over_now next = (
+        shows_script (fabric_of d) fits script all todos old u new (leads u.grants).0 clock (sym over_is ∙ is_over_now) next (ap fabric_of (sym same)),
+        subst (λ e. OwnIsAsked (fabric_of e) script new.core) (sym (next ∙ same)) (own_asked (fabric_of d) fits script all todos old u new (leads u.grants).0 clock (sym over_is ∙ is_over_now)),
+      )
+
+-- what is done before a tick, in room taken before, and the tick
+pub clock_leads : (old roomy ready new : WatchedState) (todos : List (List ScriptLine)) (t spare : ℕ) → roomy ≡ record old { spare = spare } → ready ≡ record roomy { core = prepared_from (fabric_of roomy.description) t 0 todos roomy.core }
+    → t ≡ length old.rows → LeadsOn Tick ready new → LeadsToClock todos old new
+clock_leads old roomy ready new todos t spare room made now leads grants =
+    let next = leads grants in
+    let is : ready ≡ record { description = old.description; core = prepared_from (fabric_of old.description) (length old.rows) 0 todos old.core; rows = old.rows; spare = spare } =
+    made ∙ ap (λ (w : WatchedState). record w { core = prepared_from (fabric_of w.description) t 0 todos w.core }) room
+    ∙ ap (λ (n : ℕ). record { description = old.description; core = prepared_from (fabric_of old.description) n 0 todos old.core; rows = old.rows; spare = spare }) now in
+    (next.0, record { adds = subst (λ (w : WatchedState). AddsRow (fabric_of w.description) (with_grants w grants) (with_grants new next.0)) is next.1 })

@@ -1,5 +1,5 @@
 -- What events make of a watched bus.
-use Rattle.std.proofs.Common.{◌≡◌, ◌+◌, ℕ, Bool, List, [], ◌∷◌, ◌++◌, length, Result, Ok, Err, OnOk, OnErr, refl, sym, ap, ◌∙◌, subst}
+use Rattle.std.proofs.Common.{◌≡◌, ◌+◌, ◌-◌, ℕ, Bool, List, [], ◌∷◌, ◌++◌, length, Result, Ok, Err, OnOk, OnErr, refl, sym, ap, ◌∙◌, subst}
 use Rattle.soc_desc.specs.declared.description.Description.{Description}
 use Rattle.wb_signals.specs.Request.{Request}
 use Rattle.wb_signals.specs.Wave.{WaveRowState}
@@ -93,4 +93,12 @@ pub tick_leads : (b next : BusState) (w after : WaveState) (row : WaveRowState) 
 tick_leads b next w after row shown added grants = (
   grants ++ record { ports = shown.0.grant; first = shown.0.first } ∷ [],
   record { tick = shown.0; rows = added ∙ ap (λ r. w.rows ++ r ∷ []) shown.1; grants = refl },
+)
+
+pub tick_inside : (b next : BusState) (w after : WaveState) (row : WaveRowState) → next.description ≡ b.description → ShowsTick (fabric_of b.description) b.core next.core row
+    → after ≡ record w { rows = w.rows ++ row ∷ []; spare = w.spare - 1 } → IsInside b w → IsInside next after
+tick_inside b next w after row same shown added inside = (
+  ap (λ (x : WaveState). x.ports) added ∙ inside.0 ∙ ap (λ (d : Description). d.masters) (sym same),
+  ap (λ (x : WaveState). x.slaves) added ∙ inside.1 ∙ ap (λ (d : Description). (fabric_of d).slaves) (sym same),
+  watched_more Tick (state_of b w) (state_of next after) same inside.2 (tick_leads b next w after row shown (ap (λ (x : WaveState). x.rows) added)),
 )
