@@ -1,4 +1,5 @@
 pub mod Capture
+pub mod Digits
 pub mod Ends
 pub mod Ports
 pub mod Replay

@@ -1,21 +1,21 @@
 -- The text of a replay, and the ending that decides how it is told as a whole.
 use Rattle.std.specs.Prelude.{ℕ, suc, List, [], ◌∷◌, ◌++◌, codes, decimal}
-use Rattle.eb_io.specs.Text.{line, hex_text}
+use Rattle.eb_io.specs.Text.{line}
 use Rattle.soc_journal.specs.Text.{journal_text}
 use Rattle.eb_server.specs.declared.ending.Ending.{Ending}
 use Rattle.eb_server.specs.declared.ending.Ending.TheVariants as ending
 use Rattle.eb_replay.specs.Ends.{end_text}
+use Rattle.eb_replay.specs.Digits.{reply_text}
 use Rattle.eb_replay.specs.Ports.{PortState}
 use Rattle.eb_replay.specs.Replay.{ReplayState}
 
--- the octets of a reply in hexadecimal digits, or a mark where there are none
-abbrev pub reply_text : List ℕ → List ℕ
-reply_text [] = codes "-"
-reply_text (x ∷ xs) = hex_text (x ∷ xs)
+-- a port by its number, and how its stream ended
+abbrev pub port_head : ℕ → Ending → List ℕ
+port_head m e = codes "port " ++ decimal m ++ codes " " ++ end_text e ++ codes " "
 
--- a port by its number: how its stream ended, and its reply
+-- and its reply
 abbrev pub port_line : ℕ → PortState → List ℕ
-port_line m port = line (codes "port " ++ decimal m ++ codes " " ++ end_text port.ending ++ codes " " ++ reply_text port.reply)
+port_line m port = line (port_head m port.ending ++ reply_text port.reply)
 
 -- the ports, of which the first has the number m
 abbrev pub port_lines : ℕ → List PortState → List ℕ

@@ -5,17 +5,21 @@
 //! part of it, and the replies are whole. That it returns is not claimed, since its threads wait for each other.
 //!
 //! - `capture`: a file as a link that keeps what is written to it
+//! - `digits`: a reply in digits
 //! - `ends`: how the ending of a stream is told
 //! - `lanes`: the lanes of the files, and what is kept of them
-//! - `replayed`: what is kept of a replay, and its text
+//! - `replayed`: what is kept of a replay
 //! - `running`: a replay
+//! - `text`: the text of a replay
 #![tactic(auto)]
 
 mod capture;
+mod digits;
 mod ends;
 mod lanes;
 mod replayed;
 mod running;
+mod text;
 
 pub use capture::CaptureLink;
 pub use ends::end_text;
