@@ -17,14 +17,16 @@ use Rattle.soc_core.specs.Built.{fabric_of}
 use Rattle.soc_bus.specs.View.{BusState}
 use Rattle.eb_session.specs.declared.slave.Slave.{Slave}
 use Rattle.eb_session.specs.Keeping.{SessionState, new_session}
+use Rattle.eb_server.specs.Rooms.{HasRoom}
 use Rattle.eb_server.specs.Serving.{Served}
+use Rattle.eb_replay.specs.declared.lanes.LaneRoom.{LaneRoom}
 use Rattle.eb_shared.specs.declared.lanes.Lane.{Lane}
 use Rattle.eb_shared.specs.Shared.{number_told, cycles_told, made_by}
-use Rattle.eb_shared.specs.Lanes.{IsThere}
+use Rattle.eb_shared.specs.Lanes.{IsThere, IsFreshSession}
 use Rattle.eb_replay.specs.Capture.{CaptureState, IsCapture, new_capture, capture_reading, capture_writing}
 use Rattle.eb_replay.specs.Ports.{PortState, ServedFile}
 use Rattle.eb_replay.specs.Replay.{ReplayState, Replays, replay_slave}
-use Rattle.eb_replay.specs.Lanes.{EachAt, IsSeated, HaveEnded, port_of}
+use Rattle.eb_replay.specs.Lanes.{EachAt, IsUnused, IsSeated, AreServed, HaveEnded, port_of}
 use Rattle.eb_replay.proofs.CaptureLemmas.{served_file}
 
 -- ---- items by their places
@@ -47,6 +49,16 @@ some_item : {X : Type 0} (xs : List X) (i : ℕ) → i < length xs → X
 some_item [] i lt = absurd (omega (arith, lt))
 some_item (x ∷ xs) i lt = x
 
+pub nothing_left : {X : Type 0} (xs : List X) → length xs ≡ 0 → xs ≡ []
+nothing_left [] none = refl
+nothing_left (x ∷ xs) none = absurd (omega (arith, none))
+
+-- one in the middle
+pub all_at : {X : Type 0} (P : X → Type 0) (xs ys : List X) (x : X) (zs : List X) → All P xs → ys ++ x ∷ zs ≡ xs → P x
+all_at P xs ys x zs all whole =
+    let long : length (ys ++ x ∷ zs) ≡ length ys + length (x ∷ zs) = length-append ys (x ∷ zs) in
+    subst P (get_or_at ys x zs x (length ys) refl) (subst (λ l. All P l) (sym whole) all (length ys) x (omega (arith, long)))
+
 -- those before the last, and the last
 pub all_front : {X : Type 0} (P : X → Type 0) (xs : List X) (x : X) → All P (xs ++ x ∷ []) → All P xs
 all_front P xs x all i d lt =
@@ -57,6 +69,32 @@ pub all_last : {X : Type 0} (P : X → Type 0) (xs : List X) (x : X) → All P (
 all_last P xs x all =
     let long : length (xs ++ x ∷ []) ≡ length xs + length (x ∷ []) = length-append xs (x ∷ []) in
     subst P (get_or_push xs x x (length xs) refl) (all (length xs) x (omega (arith, long)))
+
+-- ---- lanes as they are made
+
+pub seated_one : {F : Type 0} (turn : TableId) (s : Slave) (files yielded rest : List F) (file : F) (room : LaneRoom) (lane : Lane (CaptureState F)) (k : ℕ)
+    → yielded ++ file ∷ rest ≡ files → k ≡ length yielded → lane.link ≡ new_capture file → lane.session ≡ room.session → lane.rooms ≡ room.rooms → IsUnused s room
+    → IsThere turn lane.pass → number_told lane.pass ≡ k → cycles_told lane.pass ≡ record { made = []; opened = [] } → IsSeated turn s files k lane
+seated_one turn s files yielded rest file room lane k all here link session rooms unused there number none = record {
+  link = λ f. link ∙ ap new_capture (sym (ap (λ xs. get_or xs k f) (sym all) ∙ get_or_at yielded file rest f k (sym here)));
+  session = session ∙ unused.session;
+  rooms = subst HasRoom (sym rooms) unused.rooms;
+  there = there;
+  number = number;
+  none = none;
+}
+
+pub all_there : {F : Type 0} (turn : TableId) (s : Slave) (files : List F) (lanes : List (Lane (CaptureState F))) → EachAt (IsSeated turn s files) lanes → All (λ l. IsThere turn l.pass) lanes
+all_there turn s files lanes seated i d lt = (seated i d lt).there
+
+pub all_fresh : {F : Type 0} (turn : TableId) (d : Description) (files : List F) (lanes : List (Lane (CaptureState F))) → EachAt (IsSeated turn (replay_slave d) files) lanes
+    → All (λ l. IsFreshSession l.session) lanes
+all_fresh turn d files lanes seated i l lt =
+    let is : (get_or lanes i l).session ≡ new_session (replay_slave d) = (seated i l lt).session in
+    subst (λ (q : SessionState). IsFreshSession q) (sym is) (refl, refl)
+
+pub all_rooms : {F : Type 0} (turn : TableId) (s : Slave) (files : List F) (lanes : List (Lane (CaptureState F))) → EachAt (IsSeated turn s files) lanes → All (λ l. HasRoom l.rooms) lanes
+all_rooms turn s files lanes seated i d lt = (seated i d lt).rooms
 
 -- ---- the passes of lanes
 
@@ -124,15 +162,11 @@ module _ {F : Type 0} (reading : F → Reading) (d : Description) (turn : TableI
       ap (λ q. (cycles_told q).made) (sym is) ∙ sym mine ∙ ap (λ k. own k journal) here
 
   pub all_served : All (λ f. IsFresh (reading f)) files → length lanes ≡ length files → length lanes' ≡ length lanes → EachAt (IsSeated turn (replay_slave d) files) lanes
-      → ((i : ℕ) (l : Lane (CaptureState F)) → i < length lanes → number_told (get_or lanes' i l).pass ≡ number_told (get_or lanes i l).pass)
-      → ((i : ℕ) (l : Lane (CaptureState F)) → i < length lanes → Served (number_told (get_or lanes i l).pass) (get_or lanes i l).session.slave
-        (cycles_told (get_or lanes i l).pass) (cycles_told (get_or lanes' i l).pass)
-        (capture_reading reading (get_or lanes i l).link) (capture_reading reading (get_or lanes' i l).link)
-        (capture_writing (get_or lanes i l).link) (capture_writing (get_or lanes' i l).link) (get_or lanes' i l).ending)
+      → AreServed reading lanes lanes'
       → HaveEnded reading lanes' files' passes ports → All (λ p. own p.number journal ≡ made_by p) passes
       → (i : ℕ) (f f' : F) (p : PortState) → i < length files
       → ServedFile (replay_slave d) (reading (get_or files i f)) (reading (get_or files' i f')) (own i journal) (get_or ports i p)
-  all_served fresh count count' seated numbers served ended owns i f f' p lt =
+  all_served fresh count count' seated served ended owns i f f' p lt =
       let lt0 : i < length lanes = omega (arith, lt, count) in
       let lt1 : i < length lanes' = omega (arith, lt0, count') in
       let l = some_item lanes i lt0 in
@@ -142,12 +176,12 @@ module _ {F : Type 0} (reading : F → Reading) (d : Description) (turn : TableI
       let many : length passes ≡ length lanes' = passes_count lanes' passes ended.passes_are in
       let lt2 : i < length passes = omega (arith, lt1, many) in
       let pass = some_item passes i lt2 in
-      let told = served_new (replay_slave d) (get_or files i f) old new (seat.link f) seat.session seat.none (served i l lt0) in
+      let told = served_new (replay_slave d) (get_or files i f) old new (seat.link f) seat.session seat.none (served.streams i l lt0) in
       let one = served_file reading (replay_slave d) (get_or files i f) (fresh i f lt) new.link (ended.kept i l lt1) (number_told old.pass) (cycles_told new.pass) new.ending told in
       let file : new.link.file ≡ get_or files' i f' = sym (ap (λ xs. get_or xs i f') ended.files_are ∙ get_or-map (λ k. k.link.file) lanes' i l f' lt1) in
       let port : port_of new ≡ get_or ports i p = sym (ap (λ xs. get_or xs i p) ended.ports_are ∙ get_or-map port_of lanes' i l p lt1) in
       let mine : (cycles_told new.pass).made ≡ own i journal =
-      own_part i (get_or passes i pass) new (pass_at lanes' passes ended.passes_are i pass l lt2 lt1) (numbers i l lt0 ∙ seat.number) (owns i pass lt2) in
+      own_part i (get_or passes i pass) new (pass_at lanes' passes ended.passes_are i pass l lt2 lt1) (served.numbers i l lt0 ∙ seat.number) (owns i pass lt2) in
       subst (λ (q : PortState). ServedFile (replay_slave d) (reading (get_or files i f)) (reading (get_or files' i f')) (own i journal) q) port
       (subst (λ (es : List Entry). ServedFile (replay_slave d) (reading (get_or files i f)) (reading (get_or files' i f')) es (port_of new)) mine
       (subst (λ (k : F). ServedFile (replay_slave d) (reading (get_or files i f)) (reading k) (cycles_told new.pass).made (port_of new)) file one))

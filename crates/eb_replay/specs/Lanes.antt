@@ -5,24 +5,25 @@ use Rattle.eb_io.specs.Reading.{Reading}
 use Rattle.eb_session.specs.declared.slave.Slave.{Slave}
 use Rattle.eb_session.specs.Keeping.{new_session}
 use Rattle.eb_server.specs.Rooms.{HasRoom}
+use Rattle.eb_server.specs.Serving.{Served}
 use Rattle.soc_turn.specs.Views.{PassView}
 use Rattle.soc_bus.specs.View.{BusState}
 use Rattle.eb_shared.specs.declared.lanes.Lane.{Lane}
 use Rattle.eb_shared.specs.Shared.{number_told, cycles_told}
 use Rattle.eb_shared.specs.Lanes.{IsThere}
-use Rattle.eb_replay.specs.Capture.{CaptureState, IsCapture, new_capture}
+use Rattle.eb_replay.specs.Capture.{CaptureState, IsCapture, new_capture, capture_reading, capture_writing}
 use Rattle.eb_replay.specs.Ports.{PortState, told_ending}
 use Rattle.eb_replay.specs.declared.lanes.LaneRoom.{LaneRoom}
 use Rattle.eb_replay.specs.declared.lanes.Ended.{Ended}
 
 -- What a lane takes of memory is there, and no stream was served in it.
-pub record IsReady (s : Slave) (room : LaneRoom) : Type 0 where
+pub record IsUnused (s : Slave) (room : LaneRoom) : Type 0 where
   pub session : room.session ≡ new_session s
   pub rooms : HasRoom room.rooms
 
 -- Each item of a list, with its place.
 abbrev pub EachAt : {X : Type 0} → (ℕ → X → Type 0) → List X → Type 0
-EachAt P xs = (i : ℕ) (d : X) → i < length xs → P i (slice_index_or xs i d)
+EachAt {X = X} P xs = (i : ℕ) (d : X) → i < length xs → P i (slice_index_or xs i d)
 
 -- The lane of file i: it is the master i, which has made nothing and has no cycle.
 pub record IsSeated {F : Type 0} (turn : TableId) (s : Slave) (files : List F) (i : ℕ) (lane : Lane (CaptureState F)) : Type 0 where
@@ -32,6 +33,14 @@ pub record IsSeated {F : Type 0} (turn : TableId) (s : Slave) (files : List F) (
   pub there : IsThere turn lane.pass
   pub number : number_told lane.pass ≡ i
   pub none : cycles_told lane.pass ≡ record { made = []; opened = [] }
+
+-- The streams of lanes were served, each with its master's pass.
+pub record AreServed {F : Type 0} (reading : F → Reading) (lanes lanes' : List (Lane (CaptureState F))) : Type 0 where
+  pub numbers : (i : ℕ) (l : Lane (CaptureState F)) → i < length lanes → number_told (slice_index_or lanes' i l).pass ≡ number_told (slice_index_or lanes i l).pass
+  pub streams : (i : ℕ) (l : Lane (CaptureState F)) → i < length lanes → Served (number_told (slice_index_or lanes i l).pass) (slice_index_or lanes i l).session.slave
+      (cycles_told (slice_index_or lanes i l).pass) (cycles_told (slice_index_or lanes' i l).pass)
+      (capture_reading reading (slice_index_or lanes i l).link) (capture_reading reading (slice_index_or lanes' i l).link)
+      (capture_writing (slice_index_or lanes i l).link) (capture_writing (slice_index_or lanes' i l).link) (slice_index_or lanes' i l).ending
 
 -- Nothing is kept yet.
 pub record HasNone {F : Type 0} (e : Ended F) : Type 0 where

@@ -3,11 +3,12 @@ ghost use Rattle.std.specs.Prelude.{◌≡◌, ◌<◌, ◌≤◌, ◌+◌, ◌+
 ghost use Rattle.eb_io.specs.Outside.{IsFresh};
 ghost use Rattle.soc_core.specs.Built.{fabric_of};
 ghost use Rattle.soc_core.specs.Core.{built_core};
-ghost use Rattle.eb_shared.specs.Lanes.{IsThere};
+ghost use Rattle.eb_server.specs.Rooms.{HasRoom};
+ghost use Rattle.eb_shared.specs.Lanes.{IsThere, IsFreshSession};
 ghost use Rattle.eb_shared.specs.Shared.{number_told, cycles_told};
 ghost use Rattle.eb_replay.specs.Capture.{IsCapture, new_capture};
 ghost use Rattle.eb_replay.specs.Replay.{replay_slave};
-ghost use Rattle.eb_replay.specs.Lanes.{EachAt, HasNone, HasSpace, HaveEnded, IsReady, IsSeated, port_of};
+ghost use Rattle.eb_replay.specs.Lanes.{AreServed, EachAt, HasNone, HasSpace, HaveEnded, IsUnused, IsSeated, port_of};
 
 use crate::capture::CaptureLink;
 use crate::replayed::ReplayedPort;
@@ -15,9 +16,11 @@ use eb_base::NoMemory;
 use eb_io::Source;
 use eb_server::{Ending, Rooms};
 use eb_session::{Session, Slave};
-use eb_shared::{Lane, SharedBus, new_pass};
+use eb_shared::{Lane, SharedBus, new_pass, serve_links};
 use soc_turn::{Pass, Root, Turn};
 use std::alloc::Global;
+use std::sync::Wait;
+use std::thread::Threads;
 
 // How many octets of a stream are read at once.
 const PIECE: usize = 65_536;
@@ -31,7 +34,7 @@ pub(crate) struct LaneRoom {
 
 impl LaneRoom {
     fn new(alloc: Global, slave: Slave) -> Result<LaneRoom, NoMemory>
-        ensures ready { IfOk result (IsReady slave) }
+        ensures ready { IfOk result (IsUnused slave) }
     {
         Ok(LaneRoom {
             session: Session::new(alloc, slave)?,
@@ -47,7 +50,7 @@ pub(crate) fn take_rooms(
     count: usize,
 ) -> Result<Vec<LaneRoom>, NoMemory>
     ensures count { IfOk result (λ rooms. length rooms.items ≡ count) }
-    ensures ready { IfOk result (λ rooms. All (IsReady slave) rooms.items) }
+    ensures ready { IfOk result (λ rooms. All (IsUnused slave) rooms.items) }
 {
     let mut rooms = Vec::with_capacity(alloc, count)?;
     for _ in 0..count {
@@ -71,8 +74,8 @@ fn new_lane<F: Source + Drop>(
     requires built { root.old.origin.core ≡ built_core (fabric_of root.old.origin.description) }
     ensures root { root.new ≡ record root.old { made = root.old.made + 1 } }
     ensures link { result.link ≡ new_capture file }
-    ensures session { result.session ≡ room.entry.session }
-    ensures rooms { result.rooms ≡ room.entry.rooms }
+    ensures session { result.session ≡ room.session }
+    ensures rooms { result.rooms ≡ room.rooms }
     ensures there { IsThere turn.now result.pass }
     ensures number { number_told result.pass ≡ root.old.made }
     ensures none { cycles_told result.pass ≡ record { made = []; opened = [] } }
@@ -97,7 +100,7 @@ pub(crate) fn seat<F: Source + Drop>(
     lanes: &mut Vec<Lane<CaptureLink<F>>>,
 )
     requires fresh { All (λ f. IsFresh (F.reading f)) files.items }
-    requires ready { All (IsReady (replay_slave root.old.origin.description)) rooms.items }
+    requires ready { All (IsUnused (replay_slave root.old.origin.description)) rooms.items }
     requires rooms { length rooms.items ≡ length files.items }
     requires of { root.old.turn ≡ turn.now }
     requires first { root.old.made ≡ 0 }
@@ -115,6 +118,24 @@ pub(crate) fn seat<F: Source + Drop>(
         let room = rooms.pop().unwrap();
         lanes.push_reserved(new_lane(alloc, turn, root, room, file));
     }
+}
+
+/// Serves the streams of lanes beside each other.
+pub(crate) fn serve<R: Threads + Wait + Sync, F: Source + Send + Drop>(
+    rt: &R,
+    alloc: Global,
+    turn: &Turn<SharedBus>,
+    lanes: &mut Vec<Lane<CaptureLink<F>>>,
+)
+    requires some { 0 < length lanes.old.items }
+    requires passes { All (λ l. IsThere turn.now l.pass) lanes.old.items }
+    requires sessions { All (λ l. IsFreshSession l.session) lanes.old.items }
+    requires rooms { All (λ l. HasRoom l.rooms) lanes.old.items }
+    ensures count { length lanes.new.items ≡ length lanes.old.items }
+    ensures passes { All (λ l. IsThere turn.now l.pass) lanes.new.items }
+    ensures served { AreServed F.reading lanes.old.items lanes.new.items }
+{
+    serve_links(rt, alloc, turn, lanes);
 }
 
 /// What is kept of lanes whose streams have ended: their files, passes, replies and endings, in their order.
@@ -142,11 +163,11 @@ impl<F: Source + Drop> Ended<F> {
     fn add(&mut self, lane: Lane<CaptureLink<F>>)
         requires space { HasSpace 1 self.old }
         requires there { IsSome lane.pass }
-        ensures file { self.new.files.items ≡ self.old.files.items ++ lane.entry.link.file ∷ [] }
+        ensures file { self.new.files.items ≡ self.old.files.items ++ lane.link.file ∷ [] }
         ensures pass { map (λ p. Some p) self.new.passes.items
-            ≡ map (λ p. Some p) self.old.passes.items ++ lane.entry.pass ∷ [] }
-        ensures port { self.new.ports.items ≡ self.old.ports.items ++ port_of lane.entry ∷ [] }
-        ensures kept { IsCapture F.reading lane.entry.link }
+            ≡ map (λ p. Some p) self.old.passes.items ++ lane.pass ∷ [] }
+        ensures port { self.new.ports.items ≡ self.old.ports.items ++ port_of lane ∷ [] }
+        ensures kept { IsCapture F.reading lane.link }
         ensures space { (n : ℕ) → HasSpace (suc n) self.old → HasSpace n self.new }
     {
         let Lane {

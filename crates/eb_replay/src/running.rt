@@ -6,12 +6,12 @@ ghost use Rattle.eb_replay.specs.Replay.{Replays};
 ghost use Rattle.eb_replay.specs.Prepared.{IsPrepared};
 
 use crate::capture::CaptureLink;
-use crate::lanes::{Ended, LaneRoom, seat, take_rooms};
+use crate::lanes::{Ended, LaneRoom, seat, serve, take_rooms};
 use crate::replayed::Replayed;
 use eb_base::{NoMemory, Width};
 use eb_io::Source;
 use eb_session::Slave;
-use eb_shared::{Lane, SharedBus, gather, serve_links};
+use eb_shared::{Lane, SharedBus, gather};
 use soc_bus::Bus;
 use soc_desc::Description;
 use soc_journal::Journal;
@@ -71,7 +71,7 @@ fn run<R: Threads + Wait + Sync, F: Source + Send + Drop>(
     requires prepared { IsPrepared prepared.root.origin.description (length files.items) prepared }
     requires some { 0 < length files.items }
     requires fresh { All (λ f. IsFresh (F.reading f)) files.items }
-    ensures replayed { Replays F.reading prepared.entry.root.origin.description files.items result.0.items result.1 }
+    ensures replayed { Replays F.reading prepared.root.origin.description files.items result.0.items result.1 }
 {
     let Prepared {
         turn,
@@ -81,7 +81,7 @@ fn run<R: Threads + Wait + Sync, F: Source + Send + Drop>(
         mut ended,
     } = prepared;
     seat(alloc, &turn, &mut root, rooms, files, &mut lanes);
-    serve_links(rt, alloc, &turn, &mut lanes);
+    serve(rt, alloc, &turn, &mut lanes);
     ended.add_all(lanes);
     let Ended {
         files,
