@@ -25,6 +25,6 @@ mod texts;
 pub use build::write_build;
 pub use command::{Command, command_of};
 pub use fault::Fault;
-pub use lines::write_line;
+pub use lines::{rule_text, write_line};
 pub use listing::write_listing;
 pub use status::Status;

@@ -9,8 +9,8 @@ use eb_codec::Why;
 use eb_io::{Line, Sink, WriteFault, put_all, put_each};
 use soc_desc::{DescFault, Path};
 
-// The text of a rule of a stream.
-fn rule_text(rule: Why) -> &'static [u8]
+/// The text of a rule of a stream.
+pub fn rule_text(rule: Why) -> &'static [u8]
     ensures text { result.now ≡ rule_text rule }
     ensures short { length result.now ≤ 27 }
 {

@@ -1,0 +1,5 @@
+pub mod ShortLemmas
+pub mod CaptureLemmas
+pub mod LaneLemmas
+pub mod DigitLemmas
+pub mod TextLemmas
