@@ -1,5 +1,5 @@
 -- The commands, and their words.
-use Rattle.std.specs.Prelude.{◌≡◌, ◌≢◌, ◌⊎◌, ℕ, ◌+◌, ◌-◌, ◌*◌, ◌%◌, ◌^◌, ◌<◌, ◌≤◌, List, [], ◌∷◌, length, fold, codes}
+use Rattle.std.specs.Prelude.{◌≡◌, ◌≢◌, ◌⊎◌, ℕ, ◌+◌, ◌-◌, ◌*◌, ◌%◌, ◌^◌, ◌<◌, ◌≤◌, Bool, true, false, List, [], ◌∷◌, length, map, fold, codes, All, string_bytes}
 use Rattle.eb_text.specs.Texts.{help_text, version_text}
 use Rattle.eb_text.specs.declared.command.Command.{Command as Seen}
 use Rattle.eb_text.specs.declared.command.Command.TheVariants as seen
@@ -34,12 +34,16 @@ pub data Command : Type 0 where
   AnswerRam : ℕ → List ℕ → Command
   -- names of the description and of the capture
   Answer : List ℕ → List ℕ → Command
+  -- names of the description and of the script, and whether the wave is shown
+  Sim : List ℕ → List ℕ → Bool → Command
   -- name of the description
   Build : List ℕ → Command
   -- name of the description
   Tour : List ℕ → Command
   -- the number from which the cycles are made, and how many there are
   Load : ℕ → ℕ → Command
+  -- names of the description and of the captures
+  Replay : List ℕ → List (List ℕ) → Command
   -- the text that is shown
   Show : List ℕ → Command
 
@@ -64,6 +68,17 @@ pub record IsAnswer (words : List (List ℕ)) (description capture : List ℕ) :
   pub described : description ≢ []
   pub named : capture ≢ []
 
+-- `--wave` where the wave is shown, else nothing
+abbrev pub wave_words : Bool → List (List ℕ)
+wave_words true = codes "--wave" ∷ []
+wave_words false = []
+
+-- The words are `sim DESC SCRIPT`, and `--wave` behind them where the wave is shown.
+pub record IsSim (words : List (List ℕ)) (description script : List ℕ) (wave : Bool) : Type 0 where
+  pub words_are : words ≡ codes "sim" ∷ description ∷ script ∷ wave_words wave
+  pub described : description ≢ []
+  pub named : script ≢ []
+
 -- The words are `build DESC`.
 pub record IsBuild (words : List (List ℕ)) (description : List ℕ) : Type 0 where
   pub words_are : words ≡ codes "build" ∷ description ∷ []
@@ -84,6 +99,13 @@ pub record IsLoad (words : List (List ℕ)) (start cycles : ℕ) : Type 0 where
   pub start_below : start < 2 ^ 31
   pub most_cycles : cycles ≤ 100000
 
+-- The words are `replay DESC CAPTURE..`, with one capture or more.
+pub record IsReplay (words : List (List ℕ)) (description : List ℕ) (captures : List (List ℕ)) : Type 0 where
+  pub words_are : words ≡ codes "replay" ∷ description ∷ captures
+  pub described : description ≢ []
+  pub some : captures ≢ []
+  pub named : All (λ capture. capture ≢ []) captures
+
 -- The one word is `--help` or `--version`, and this is the text that it shows.
 abbrev pub IsShow : List (List ℕ) → List ℕ → Type 0
 IsShow words text = ((words ≡ codes "--help" ∷ []) × (text ≡ help_text)) ⊎ ((words ≡ codes "--version" ∷ []) × (text ≡ version_text))
@@ -92,9 +114,11 @@ IsShow words text = ((words ≡ codes "--help" ∷ []) × (text ≡ help_text)) 
 abbrev pub IsCommand : List (List ℕ) → Command → Type 0
 IsCommand words (AnswerRam octets capture) = IsAnswerRam words octets capture
 IsCommand words (Answer description capture) = IsAnswer words description capture
+IsCommand words (Sim description script wave) = IsSim words description script wave
 IsCommand words (Build description) = IsBuild words description
 IsCommand words (Tour description) = IsTour words description
 IsCommand words (Load start cycles) = IsLoad words start cycles
+IsCommand words (Replay description captures) = IsReplay words description captures
 IsCommand words (Show text) = IsShow words text
 
 -- No command has these words.
@@ -109,7 +133,9 @@ OneCommand = (words : List (List ℕ)) (command other : Command) → IsCommand w
 abbrev pub command_seen : Seen → Command
 command_seen (seen.AnswerRam octets capture) = AnswerRam octets capture.now
 command_seen (seen.Answer description capture) = Answer description.now capture.now
+command_seen (seen.Sim description script wave) = Sim description.now script.now wave
 command_seen (seen.Build description) = Build description.now
 command_seen (seen.Tour description) = Tour description.now
 command_seen (seen.Load start cycles) = Load start cycles
+command_seen (seen.Replay description captures) = Replay description.now (map string_bytes captures.now)
 command_seen (seen.Show text) = Show text.now

@@ -24,6 +24,7 @@ status_number (fault.Malformed place rule) = 6
 status_number (fault.Truncated octets) = 7
 status_number fault.TooLong = 12
 status_number fault.NoMemory = 13
+status_number (fault.Script number) = 14
 
 abbrev pub status_of : Fault → Status
 status_of fault = record { 0 = status_number fault }
@@ -66,6 +67,10 @@ malformed_line place rule = line (codes "malformed at " ++ decimal place ++ code
 abbrev pub truncated_line : ℕ → List ℕ
 truncated_line octets = line (codes "truncated after " ++ decimal octets ++ codes " octets of an item")
 
+-- which line of a script is refused
+abbrev pub script_line : ℕ → List ℕ
+script_line number = line (codes "script refused at line " ++ decimal number)
+
 -- the line of each ending
 abbrev pub line_of : Fault → List ℕ
 line_of fault.Usage = line (codes "usage")
@@ -76,3 +81,4 @@ line_of (fault.Malformed place rule) = malformed_line place rule
 line_of (fault.Truncated octets) = truncated_line octets
 line_of fault.TooLong = line (codes "too long")
 line_of fault.NoMemory = line (codes "no memory")
+line_of (fault.Script number) = script_line number

@@ -1,6 +1,6 @@
 // The commands, read from their words.
-ghost use Rattle.std.specs.Prelude.{◌≡◌, ℕ, List, map, MatchOption, string_bytes};
-ghost use Rattle.eb_text.specs.Command.{IsAnswerRam, IsAnswer, IsBuild, IsTour, IsLoad, IsShow, IsCommand, IsNoCommand, command_seen};
+ghost use Rattle.std.specs.Prelude.{◌≡◌, ◌≢◌, ◌↔◌, ℕ, Bool, List, [], map, All, IsTrue, MatchOption, string_bytes};
+ghost use Rattle.eb_text.specs.Command.{IsAnswerRam, IsAnswer, IsSim, IsBuild, IsTour, IsLoad, IsReplay, IsShow, IsCommand, IsNoCommand, command_seen, wave_words};
 
 use crate::numbers::{number_at_most, ram_size_of};
 use crate::texts::{help, version};
@@ -22,6 +22,12 @@ pub enum Command<'a> {
         description: &'a str,
         capture: &'a str,
     },
+    /// Runs a script on a described bus, and shows the journal, behind the wave if that is asked for.
+    Sim {
+        description: &'a str,
+        script: &'a str,
+        wave: bool,
+    },
     /// Shows the tables of a described bus.
     Build {
         description: &'a str,
@@ -34,6 +40,11 @@ pub enum Command<'a> {
     Load {
         start: u32,
         cycles: u32,
+    },
+    /// Answers captures beside each other on a described bus, each as a master of its own.
+    Replay {
+        description: &'a str,
+        captures: &'a [String],
     },
     /// Shows a text.
     Show(&'static [u8]),
@@ -73,6 +84,41 @@ fn answer_of(words: &[String]) -> Option<(&str, &str)>
         return None;
     }
     Some((description.as_str(), capture.as_str()))
+}
+
+// What stands behind the script: nothing, or `--wave`.
+fn wave_of(words: &[String]) -> Option<bool>
+    ensures { MatchOption result ((wave : Bool) → map string_bytes words.now ≡ wave_words wave → ⊥)
+        (λ wave. map string_bytes words.now ≡ wave_words wave) }
+{
+    if words.is_empty() {
+        return Some(false);
+    }
+    let [word] = words else {
+        return None;
+    };
+    if word.as_str() == "--wave" {
+        Some(true)
+    } else {
+        None
+    }
+}
+
+// `sim DESC SCRIPT`, or the same with `--wave`.
+fn sim_of(words: &[String]) -> Option<(&str, &str, bool)>
+    ensures { MatchOption result
+        ((description script : List ℕ) (wave : Bool) → IsSim (map string_bytes words.now) description script wave → ⊥)
+        (λ x. IsSim (map string_bytes words.now) x.0.now x.1.now x.2) }
+{
+    let [first, description, script, others @ ..] = words else {
+        return None;
+    };
+    if first.as_str() != "sim" || description.is_empty() || script.is_empty() {
+        return None;
+    }
+    let (description, script) = (description.as_str(), script.as_str());
+    let wave = wave_of(others)?;
+    Some((description, script, wave))
 }
 
 // `build DESC`.
@@ -119,6 +165,36 @@ fn load_of(words: &[String]) -> Option<(u32, u32)>
     Some((start, cycles))
 }
 
+// None of the words is empty.
+fn are_named(words: &[String]) -> bool
+    ensures named { IsTrue result ↔ All (λ name. name ≢ []) (map string_bytes words.now) }
+{
+    for word in words {
+        if word.is_empty() {
+            return false;
+        }
+    }
+    true
+}
+
+/// The description and the captures that the words `replay DESC CAPTURE..` name; none where they are other words.
+pub fn replay_of(words: &[String]) -> Option<(&str, &[String])>
+    ensures { MatchOption result
+        ((description : List ℕ) (captures : List (List ℕ)) → IsReplay (map string_bytes words.now) description captures → ⊥)
+        (λ x. IsReplay (map string_bytes words.now) x.0.now (map string_bytes x.1.now)) }
+{
+    let [first, description, captures @ ..] = words else {
+        return None;
+    };
+    if first.as_str() != "replay" || description.is_empty() || captures.is_empty() {
+        return None;
+    }
+    if !are_named(captures) {
+        return None;
+    }
+    Some((description.as_str(), captures))
+}
+
 // The text that `--help` or `--version` shows.
 fn text_of(words: &[String]) -> Option<&'static [u8]>
     ensures { MatchOption result ((text : List ℕ) → IsShow (map string_bytes words.now) text → ⊥)
@@ -150,6 +226,13 @@ pub fn command_of(words: &[String]) -> Option<Command<'_>>
             capture,
         });
     }
+    if let Some((description, script, wave)) = sim_of(words) {
+        return Some(Command::Sim {
+            description,
+            script,
+            wave,
+        });
+    }
     if let Some(description) = build_of(words) {
         return Some(Command::Build { description });
     }
@@ -158,6 +241,12 @@ pub fn command_of(words: &[String]) -> Option<Command<'_>>
     }
     if let Some((start, cycles)) = load_of(words) {
         return Some(Command::Load { start, cycles });
+    }
+    if let Some((description, captures)) = replay_of(words) {
+        return Some(Command::Replay {
+            description,
+            captures,
+        });
     }
     match text_of(words) {
         None => None,

@@ -26,6 +26,8 @@ pub enum Fault {
     TooLong,
     /// There was no memory.
     NoMemory,
+    /// The line of the script with this number, from 1, is the first that breaks a rule; 0 where the script is too long.
+    Script(u32),
 }
 
 impl Fault {
@@ -45,6 +47,7 @@ impl Fault {
             Fault::Truncated(_) => Status::TRUNCATED,
             Fault::TooLong => Status::TOO_LONG,
             Fault::NoMemory => Status::NO_MEMORY,
+            Fault::Script(_) => Status::SCRIPT,
         }
     }
 }

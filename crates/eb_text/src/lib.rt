@@ -23,7 +23,7 @@ mod status;
 mod texts;
 
 pub use build::write_build;
-pub use command::{Command, command_of};
+pub use command::{Command, command_of, replay_of};
 pub use fault::Fault;
 pub use lines::{rule_text, write_line};
 pub use listing::write_listing;

@@ -2,7 +2,7 @@
 ghost use Rattle.std.specs.Prelude.{◌≡◌, ◌≤◌, ◌++◌, codes, length};
 ghost use Rattle.eb_io.specs.Text.{line};
 ghost use Rattle.eb_io.specs.Writing.{Wrote};
-ghost use Rattle.eb_text.specs.Lines.{line_of, malformed_line, refusal, refusal_line, rule_text, truncated_line};
+ghost use Rattle.eb_text.specs.Lines.{line_of, malformed_line, refusal, refusal_line, rule_text, script_line, truncated_line};
 
 use crate::fault::Fault;
 use eb_codec::Why;
@@ -46,6 +46,16 @@ fn truncated_line(octets: u64) -> Line<64>
     let mut line = Line::of(b"truncated after ");
     line.put_decimal(octets);
     line.put(b" octets of an item");
+    line.put(b"\n");
+    line
+}
+
+// Which line of a script is refused.
+fn script_line(number: u32) -> Line<64>
+    ensures value { result ≡ script_line number }
+{
+    let mut line = Line::of(b"script refused at line ");
+    line.put_decimal(u64::from(number));
     line.put(b"\n");
     line
 }
@@ -124,5 +134,6 @@ pub fn write_line<K: Sink>(fault: &Fault, sink: &mut K) -> Result<(), WriteFault
         Fault::Truncated(octets) => put_all(sink, truncated_line(*octets).as_slice()),
         Fault::TooLong => put_line(b"too long", sink),
         Fault::NoMemory => put_line(b"no memory", sink),
+        Fault::Script(number) => put_all(sink, script_line(*number).as_slice()),
     }
 }

@@ -31,4 +31,7 @@ impl Status {
 
     /// There was no memory.
     pub const NO_MEMORY: Status = Status(13);
+
+    /// The script is refused.
+    pub const SCRIPT: Status = Status(14);
 }

@@ -11,6 +11,12 @@ pub fn help() -> &'static [u8]
   eb answer --ram N CAPTURE   answer the octets in the file CAPTURE on a RAM of
                               N octets, a multiple of 4 from 4 to 1048576
   eb answer DESC CAPTURE      answer them on the bus that the file DESC describes
+  eb sim DESC SCRIPT          run the file SCRIPT on that bus clock by clock, and
+                              show the journal
+  eb sim DESC SCRIPT --wave   show the signals of each clock before it
+  eb replay DESC CAPTURE..    answer each file CAPTURE as one master of that bus,
+                              all of them at once, and show the replies and the
+                              journal
   eb build DESC               show the SDB tables of that bus
   eb tour DESC                show what discovery finds on that bus, read through a
                               host and a slave
@@ -21,7 +27,9 @@ pub fn help() -> &'static [u8]
 
 Replies and texts go to standard output. The status is 0, or with a line on
 standard error: 2 usage, 3 description refused, 4 read fault, 5 write fault,
-6 malformed, 7 truncated, 12 too long, 13 no memory.
+6 malformed, 7 truncated, 12 too long, 13 no memory, 14 script refused. The
+endings of a replay stand in its output, and the first that is not clean gives
+the status, without a line.
 "
 }
 
