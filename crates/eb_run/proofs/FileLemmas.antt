@@ -1,5 +1,5 @@
 -- From a file that was opened to how a command goes on.
-use Rattle.std.proofs.Common.{◌≡◌, ◌⊎◌, inl, inr, ℕ, List, [], ◌∷◌, ◌++◌, Option, Some, None, Vec, Global, Result, Err, sym, ◌∙◌, ap, subst}
+use Rattle.std.proofs.Common.{◌≡◌, ◌⊎◌, inl, inr, ℕ, List, [], ◌∷◌, ◌++◌, Option, Some, None, Vec, Global, Result, Ok, Err, refl, sym, ◌∙◌, ap, subst}
 use Rattle.std.specs.Prelude.{⊤}
 use Rattle.std.specs.Option.{IfSome}
 use Rattle.std.specs.Io.KnownBytes.{append_known}
@@ -12,11 +12,10 @@ use Rattle.eb_server.specs.Serving.{WasRead}
 use Rattle.eb_server.specs.declared.ending.Ending.{Ending}
 use Rattle.eb_server.specs.declared.ending.Ending.TheVariants as ending
 use Rattle.soc_desc.specs.Described.{most_octets}
-use Rattle.soc_desc.specs.declared.description.Description.{Description}
 use Rattle.eb_text.specs.declared.fault.Fault.{Fault}
 use Rattle.eb_text.specs.declared.fault.Fault.TheVariants as fault
 use Rattle.eb_run.specs.Run.{Run}
-use Rattle.eb_run.specs.Files.{IsDescribed, ReadFile, ReadsDescription, ChangesLast}
+use Rattle.eb_run.specs.Files.{AreText, ReadFile, ReadsFile, ChangesLast}
 use Rattle.eb_run.specs.Streams.{System, ServedOn, AnswersCapture, result_of}
 
 -- what a fresh file gave since is all that it gave
@@ -76,17 +75,35 @@ answers run mid capture system entries e result opened changes is =
       is,
     )
 
--- ---- descriptions
+-- ---- texts
 
--- The file was opened and read to its end, and its text was accepted or refused, or there was no memory.
-pub reads_text : {F : Type 0} (reading : F → Reading) (old mid new : Outside F) (name : List ℕ) (octets : Vec ℕ Global) (r : Result Description Fault)
+-- The file was opened and read to its end.
+pub reads_text : {F : Type 0} (reading : F → Reading) (old mid new : Outside F) (name : List ℕ) (octets : Vec ℕ Global)
     → OpenedFile reading old mid name → ChangesLast mid new (λ before now. Gathers (reading before) (reading now) most_octets (gathered.All octets))
-    → (r ≡ Err fault.NoMemory) ⊎ IsDescribed octets.items r → ReadsDescription reading old new name r
-reads_text reading old mid new name octets r opened changes is =
+    → ReadsFile reading old new name AreText (Ok (Some octets))
+reads_text reading old mid new name octets opened changes =
     let gathers = changes.changed in
     let read = read_file reading old mid new name opened changes octets.items gathers.2.given in
     let no_fault = gathers.2.faults ∙ (fresh reading old mid new name opened changes).faults in
-    elim is [
-      | inl none ↦ inr (inr (inl (none, record { file = changes.now; octets = octets.items; read = read; faults = no_fault })))
-      | inr so ↦ inr (inr (inr (octets.items, record { file = changes.now; read = read; to = inl (gathers.1, gathers.0); no_fault = no_fault }, so)))
-    ]
+    inr (inr (inr (octets.items, record { file = changes.now; read = read; to = inl (gathers.1, gathers.0); no_fault = no_fault }, (refl, gathers.0))))
+
+module _ {F T U : Type 0} (reading : F → Reading) (old new : Outside F) (name : List ℕ) (makes : List ℕ → Result T Fault → Type 0) (others : List ℕ → Result U Fault → Type 0) where
+  -- Where octets were read, what is made of them is.
+  pub on_octets : (t : T) (r : Result U Fault) → ReadsFile reading old new name makes (Ok t) → ((octets : List ℕ) → makes octets (Ok t) → (r ≡ Err fault.NoMemory) ⊎ others octets r)
+      → ReadsFile reading old new name others r
+  on_octets t r (inl (inl (is, failed))) then_made = cc
+  on_octets t r (inl (inr (is, same))) then_made = cc
+  on_octets t r (inr (inl (is, failed))) then_made = cc
+  on_octets t r (inr (inr (inl (is, part)))) then_made = cc
+  on_octets t r (inr (inr (inr (octets, read, so)))) then_made = elim (then_made octets so) [
+    | inl none ↦ inr (inr (inl (none, record { file = read.file; octets = octets; read = read.read; faults = read.no_fault })))
+    | inr made ↦ inr (inr (inr (octets, read, made)))
+  ]
+
+  -- A fault that was none of the octets stays it.
+  pub on_fault : (f : Fault) → ReadsFile reading old new name makes (Err f) → ((octets : List ℕ) → makes octets (Err f) → ⊥) → ReadsFile reading old new name others (Err f)
+  on_fault f (inl (inl (is, failed))) none = inl (inl (cc, failed))
+  on_fault f (inl (inr (is, same))) none = inl (inr (cc, same))
+  on_fault f (inr (inl (is, failed))) none = inr (inl (cc, failed))
+  on_fault f (inr (inr (inl (is, part)))) none = inr (inr (inl (cc, part)))
+  on_fault f (inr (inr (inr (octets, read, so)))) none = absurd (none octets so)

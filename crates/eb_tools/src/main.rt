@@ -2,7 +2,7 @@
 #![tactic(auto)]
 
 use eb_io::{RealWorld, WriteSink};
-use eb_run::{Family, Fault, family_of, run_plain, write_line};
+use eb_run::{Family, Fault, family_of, run_plain, run_shared, write_line};
 use std::alloc::Global;
 use std::env;
 use std::io::{self, ErrorKind};
@@ -27,9 +27,9 @@ fn main(rt: HostRuntime) -> ExitCode {
     let mut world = RealWorld::new(rt, alloc);
     let status = match words_of(rt, alloc) {
         Ok(words) => match family_of(&words) {
-            Family::Plain | Family::Client | Family::Shared => {
-                run_plain(alloc, &words, &mut world, &mut out, &mut err)
-            }
+            Family::Plain => run_plain(alloc, &words, &mut world, &mut out, &mut err),
+            Family::Client => unreachable!(),
+            Family::Shared => run_shared(&rt, alloc, &words, &mut world, &mut out, &mut err),
         },
         Err(fault) => {
             let _ = write_line(&fault, &mut err);
