@@ -8,6 +8,6 @@ use Rattle.soc_bus.proofs.bus.Bus.slaves.Goals as goal
 pub returns : goal.returns
 returns g c = record {
   slaves =
-    c.slaves.ensures.slaves ∙ ap (λ (cs : List Child). length cs) c.self.invariant.1.slaves
-    ∙ ap (λ (s : BusState). (fabric_of s.description).slaves) c.self.view_is;
+      c.slaves.ensures.slaves ∙ ap (λ (cs : List Child). length cs) c.self.invariant.1.slaves
+      ∙ ap (λ (s : BusState). (fabric_of s.description).slaves) c.self.view_is;
 }
