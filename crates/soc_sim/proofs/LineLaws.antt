@@ -1,5 +1,5 @@
 -- A bus takes the lines of a script that was read for it.
-use Rattle.std.proofs.Common.{◌≡◌, ◌≤◌, ◌+◌, ℕ, zero, suc, ◌<◌, List, [], ◌∷◌, length, map, replicate, All, refl, sym, ap, subst, arith}
+use Rattle.std.proofs.Common.{◌≡◌, ◌≤◌, ℕ, zero, suc, List, [], ◌∷◌, map, replicate, All, refl, sym, ap, subst, arith}
 use Rattle.eb_base.specs.declared.width.Width.TheVariants.{W32}
 use Rattle.eb_base.specs.Width.{octets}
 use Rattle.soc_desc.specs.declared.description.Description.{Description}

@@ -1,11 +1,11 @@
 -- What a master may do before a tick while its port follows its lines.
-use Rattle.std.proofs.Common.{◌≡◌, ◌≢◌, ℕ, zero, suc, ◌+◌, ◌<◌, ◌≤◌, ◌==◌, ◌&&◌, Bool, true, false, List, [], ◌∷◌, ◌++◌, length, map, refl, sym, ap, ◌∙◌, subst, arith, append_assoc, inl, inr, get_or-set_same}
-use Rattle.std.specs.Prelude.{◌⊎◌, slice_index_or, slice_set, Some}
+use Rattle.std.proofs.Common.{◌≡◌, ◌≢◌, ℕ, suc, ◌+◌, ◌<◌, ◌≤◌, Bool, true, false, List, [], ◌∷◌, ◌++◌, length, map, refl, sym, ap, ◌∙◌, subst, arith, append_assoc, inl, inr, get_or-set_same}
+use Rattle.std.specs.Prelude.{◌⊎◌, slice_index_or, slice_set}
 use Rattle.std.proofs.lemmas.List.{length-set}
 use Rattle.wb_signals.specs.Request.{Request}
 use Rattle.wb_signals.specs.History.{own, marked}
 use Rattle.soc_core.specs.Fabric.{Fabric, IsFabric, AllGoIn}
-use Rattle.soc_core.specs.Core.{Phase, Idle, Wants, Holds, Leaves, CorePort, Core, port, resting_port, unloaded, with_taken, raised_of, is_idle, is_granted, taken, released, CanRaise, CanLoad, CanTake, CanRelease}
+use Rattle.soc_core.specs.Core.{Phase, Idle, Wants, Holds, Leaves, CorePort, Core, port, resting_port, unloaded, with_taken, raised_of, is_idle, is_granted, taken, released, CanRaise, CanLoad}
 use Rattle.soc_core.specs.Sound.{StandsIn, IsSoundCore}
 use Rattle.soc_core.specs.Built.{set_of_cycle}
 use Rattle.soc_script.specs.Script.{ScriptLine}
@@ -20,7 +20,7 @@ use Rattle.soc_script_wave.proofs.Preparing.{lines-append, through, some_ops}
 use Rattle.soc_script_wave.proofs.Scripted.{cycle_lines}
 use Rattle.soc_script_wave.proofs.OwnRuns.{OwnAs, OwnLine, asked_first, own_prepare}
 use Rattle.soc_script_wave.proofs.OwnScript.{sound_kept}
-use Rattle.soc_sim.specs.Steps.{MaySettle, MayBegin, MayPrepare, MayAllPrepare}
+use Rattle.soc_sim.specs.Steps.{MaySettle, MayPrepare, MayAllPrepare}
 
 abbrev front_or : ScriptLine → List ScriptLine → ScriptLine
 front_or d [] = d
@@ -188,6 +188,6 @@ may_all f fits script all t m (todo ∷ todos) core le sound follows =
     let mid : Core = prepared f t m todo core in (
       may_prepare f core m lt sound fits (cycles_of m script) are lines todo s.0 s.1,
       may_all f fits script all t (suc m) todos mid (omega (arith, le)) one.state.kept (λ j n is below.
-      let other : j ≢ m = λ same. omega (arith, same, is) in
-      follows_again f script j core mid (slice_index_or todos n []) (one.others j other) (one.owns j other) (follows j (suc n) (omega (arith, is)) (omega (arith, below)))),
+          let other : j ≢ m = λ same. omega (arith, same, is) in
+          follows_again f script j core mid (slice_index_or todos n []) (one.others j other) (one.owns j other) (follows j (suc n) (omega (arith, is)) (omega (arith, below)))),
     )

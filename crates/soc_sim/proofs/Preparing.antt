@@ -1,11 +1,10 @@
 -- What is done before a tick, master after master.
-use Rattle.std.proofs.Common.{◌≡◌, ◌≢◌, ℕ, zero, suc, ◌+◌, ◌<◌, ◌≤◌, ◌==◌, ◌&&◌, Bool, true, false, List, [], ◌∷◌, ◌++◌, length, take, drop, refl, sym, ap, ◌∙◌, subst, arith, append_assoc, get_or-set_other}
+use Rattle.std.proofs.Common.{◌≡◌, ◌≢◌, ℕ, zero, suc, ◌+◌, ◌<◌, ◌≤◌, ◌&&◌, Bool, true, false, List, [], ◌∷◌, ◌++◌, length, take, drop, refl, sym, ap, ◌∙◌, subst, arith, append_assoc, get_or-set_other}
 use Rattle.std.specs.Prelude.{nat_le, slice_index_or, slice_set}
 use Rattle.std.proofs.lemmas.List.{length-set, drop_more}
 use Rattle.std.proofs.Math.Seq.{drop-length}
-use Rattle.wb_signals.specs.Request.{Request}
 use Rattle.soc_core.specs.Fabric.{Fabric}
-use Rattle.soc_core.specs.Core.{Phase, Idle, Wants, Holds, Leaves, CorePort, Core, port, resting_port, unloaded, with_load, with_taken, raised, loaded, taken, released}
+use Rattle.soc_core.specs.Core.{Phase, Idle, Wants, Holds, Leaves, CorePort, Core, port, resting_port, unloaded, with_load, with_taken, taken}
 use Rattle.soc_script.specs.Script.{ScriptLine}
 use Rattle.soc_script_wave.specs.Runner.{is_loaded, is_through, after_taken, settled_if, settled, lines_left, load_if, begun_by, begun_if, advanced, prepared, prepared_from, left_from, is_over, is_nil, is_released}
 use Rattle.soc_wave.proofs.Lists.{append-nil}
@@ -127,7 +126,7 @@ module _ (f : Fabric) (t : ℕ) (todos : List (List ScriptLine)) (core : Core) (
 
     pub left_all : todos_now ≡ left_from 0 todos core
     left_all =
-        sym (append-nil todos_now ) ∙ ap (λ ls. ls ++ []) (sym (take_whole todos_now m (omega (arith, end, r.count))))
+        sym (append-nil todos_now) ∙ ap (λ ls. ls ++ []) (sym (take_whole todos_now m (omega (arith, end, r.count))))
         ∙ ap (λ ls. take m todos_now ++ left_from m ls now) (sym none) ∙ r.leaves
 
 pub prepares_step : (f : Fabric) (t : ℕ) (todos : List (List ScriptLine)) (core : Core) (m : ℕ) (todos_now : List (List ScriptLine)) (now : Core) → PreparesRest f t todos core m todos_now now → m < length todos

@@ -1,12 +1,12 @@
 -- A script under way: what the clocks so far leave to do.
-use Rattle.std.proofs.Common.{◌≡◌, ℕ, zero, suc, ◌+◌, ◌-◌, ◌<◌, ◌≤◌, Bool, true, false, List, [], ◌∷◌, ◌++◌, length, refl, sym, ap, ◌∙◌, subst, arith, length-append}
+use Rattle.std.proofs.Common.{◌≡◌, ℕ, suc, ◌+◌, ◌-◌, ◌<◌, ◌≤◌, Bool, true, false, List, [], ◌∷◌, ◌++◌, length, refl, sym, ap, ◌∙◌, subst, arith, length-append}
 use Rattle.std.specs.Prelude.{slice_index_or}
 use Rattle.soc_desc.specs.declared.description.Description.{Description}
 use Rattle.soc_desc.specs.Accepted.{IsAccepted}
 use Rattle.soc_core.specs.Fabric.{Fabric, IsFabric}
 use Rattle.soc_core.specs.Built.{fabric_of}
 use Rattle.wb_signals.specs.Wave.{WaveRowState}
-use Rattle.soc_core.specs.Core.{Core, port, built_core, granted_from}
+use Rattle.soc_core.specs.Core.{Core, built_core, granted_from}
 use Rattle.soc_core.specs.Sound.{IsSoundCore}
 use Rattle.soc_core.proofs.BuiltLemmas.{described_fabric}
 use Rattle.soc_core.proofs.Ticks.{built_sound, tick_sound}

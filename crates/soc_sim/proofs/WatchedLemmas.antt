@@ -1,5 +1,7 @@
 -- What events make of a watched bus.
-use Rattle.std.proofs.Common.{◌≡◌, ◌+◌, ◌-◌, ℕ, Bool, List, [], ◌∷◌, ◌++◌, length, Result, Ok, Err, OnOk, OnErr, refl, sym, ap, ◌∙◌, subst}
+use Rattle.std.proofs.Common.{◌≡◌, ◌-◌, ◌^◌, ◌<◌, ◌≤◌, ℕ, Bool, true, false, List, [], ◌∷◌, ◌++◌, Result, Ok, Err, OnOk, OnErr, refl, sym, ap, ◌∙◌, subst, arith}
+use Rattle.std.specs.Prelude.{nat_lt}
+use Rattle.std.proofs.lemmas.Nat.{pow_below}
 use Rattle.soc_desc.specs.declared.description.Description.{Description}
 use Rattle.wb_signals.specs.Request.{Request}
 use Rattle.wb_signals.specs.Wave.{WaveRowState}
@@ -8,7 +10,6 @@ use Rattle.soc_core.specs.Built.{fabric_of}
 use Rattle.soc_core.specs.Core.{Core, built_core, raised, loaded, taken, released, CanRaise, CanLoad, CanTake, CanRelease}
 use Rattle.soc_core.specs.Events.{Event, Raise, Load, Take, Release, Tick}
 use Rattle.soc_bus.specs.View.{BusState}
-use Rattle.soc_wave.specs.Arbitration.{Granting}
 use Rattle.soc_wave.specs.Flat.{WaveState}
 use Rattle.soc_wave.specs.Shown.{ShowsTick}
 use Rattle.soc_wave.specs.Laws.{Watched, LeadsWatched, LeadAllFreely, watched_from}
@@ -102,3 +103,16 @@ tick_inside b next w after row same shown added inside = (
   ap (λ (x : WaveState). x.slaves) added ∙ inside.1 ∙ ap (λ (d : Description). (fabric_of d).slaves) (sym same),
   watched_more Tick (state_of b w) (state_of next after) same inside.2 (tick_leads b next w after row shown (ap (λ (x : WaveState). x.rows) added)),
 )
+
+-- ---- the number of slaves
+
+few_by : (n set : ℕ) → set ≡ 2 ^ n - 1 → set < 2 ^ 128 → (b : Bool) → nat_lt 128 n ≡ b → n ≤ 128
+few_by n set all within true more =
+    let above : 128 < n = grind (arith, more) in
+    let beyond = pow_below 128 n above in
+    absurd (omega (arith, all, within, beyond))
+few_by n set all within false fewer = grind (arith, fewer)
+
+-- a set of all of them that has 128 bits
+pub few_slaves : (n set : ℕ) → set ≡ 2 ^ n - 1 → set < 2 ^ 128 → n ≤ 128
+few_slaves n set all within = few_by n set all within (nat_lt 128 n) refl

@@ -1,5 +1,5 @@
 -- What a bus takes of the scripts that are read for it, and what running one shows.
-use Rattle.std.specs.Prelude.{◌≡◌, ℕ, List}
+use Rattle.std.specs.Prelude.{ℕ, List}
 use Rattle.eb_base.specs.declared.width.Width.TheVariants.{W32}
 use Rattle.soc_desc.specs.declared.description.Description.{Description}
 use Rattle.soc_desc.specs.Accepted.{IsAccepted}

@@ -62,8 +62,9 @@ impl<R: BusRecorder> WatchedBus<R> {
           spare = 0;
         } }
     {
+        let _ = bus.journal();
         let masters = bus.masters();
-        let slaves = bus.slaves() as u8;
+        let slaves = slaves_of(&bus) as u8;
         WatchedBus {
             bus,
             wave: Wave::new(alloc, masters, slaves),
@@ -153,7 +154,7 @@ impl<R: BusRecorder> WatchedBus<R> {
         ensures description { self.new.description ≡ self.old.description }
     {
         let ports = usize::from(self.bus.masters());
-        let slaves = self.bus.slaves();
+        let slaves = slaves_of(&self.bus);
         let mut rows = [PortRow::none(); 16];
         let mut holders = [None; 128];
         add_tick(
@@ -163,6 +164,15 @@ impl<R: BusRecorder> WatchedBus<R> {
             &mut holders[..slaves],
         );
     }
+}
+
+/// How many top slaves a bus has. A set of them has a bit for each, so that they are at most 128.
+fn slaves_of<R: BusRecorder>(bus: &Bus<R>) -> usize
+    ensures slaves { result ≡ (fabric_of bus.now.description).slaves }
+    ensures most { result ≤ 128 }
+{
+    let _ = bus.all_slaves();
+    bus.slaves()
 }
 
 /// One tick of a bus, whose row is added to a wave.

@@ -1,5 +1,5 @@
 -- A master's place moves on.
-use Rattle.std.proofs.Common.{rules, ◌<◌, ◌≤◌, List, length, refl, ap, sym, ◌∙◌, arith}
+use Rattle.std.proofs.Common.{rules, ◌<◌, ◌≤◌, List, length, ap, arith}
 use Rattle.soc_script.specs.Script.{ScriptLine}
 use Rattle.soc_sim.proofs.TodoLemmas.{length-todos_at, places_set, behind_is, nothing_behind}
 use Rattle.soc_sim.proofs.todos.Todos.advance.Goals as goal

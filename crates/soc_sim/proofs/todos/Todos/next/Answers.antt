@@ -1,5 +1,5 @@
 -- The next line of a master.
-use Rattle.std.proofs.Common.{rules, ◌<◌, ◌≤◌, List, length, ap, sym, ◌∙◌, arith}
+use Rattle.std.proofs.Common.{rules, ◌<◌, ◌≤◌, List, length, ap, arith}
 use Rattle.std.proofs.lemmas.List.{get_or_default}
 use Rattle.soc_script.specs.Script.{ScriptLine}
 use Rattle.soc_sim.proofs.TodoLemmas.{length-todos_at, line_is, none_is}

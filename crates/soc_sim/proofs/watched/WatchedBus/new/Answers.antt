@@ -7,6 +7,6 @@ use Rattle.soc_sim.proofs.watched.WatchedBus.new.Goals as goal
 pub invariant_of-result : goal.invariant_of-result
 invariant_of-result g c = (
   ap (λ (w : WaveState). w.ports) c.new.ensures.empty ∙ c.masters-masters.ensures.masters,
-  ap (λ (w : WaveState). w.slaves) c.new.ensures.empty ∙ c.slaves-slaves.ensures.slaves,
+  ap (λ (w : WaveState). w.slaves) c.new.ensures.empty ∙ c.slaves_of-slaves.ensures.slaves,
   watched_first (state_of c.args.bus c.new.result) c.requires.built (ap (λ (w : WaveState). w.rows) c.new.ensures.empty),
 )

@@ -1,6 +1,6 @@
 -- The rows are a legal wave.
-use Rattle.std.proofs.Common.{ap, subst}
-use Rattle.soc_sim.specs.Watched.{WatchedState, IsWatched}
+use Rattle.std.proofs.Common.{subst}
+use Rattle.soc_sim.specs.Watched.{IsWatched}
 use Rattle.soc_sim.proofs.WatchedLemmas.{state_of, is_watched}
 use Rattle.soc_sim.proofs.watched.WatchedBus.wave.Goals as goal
 
