@@ -1,6 +1,7 @@
 -- Which commands the words of a family are.
-use Rattle.std.proofs.Common.{◌≡◌, ◌⊎◌, inl, inr, ℕ, List, Result, Ok, Err, sym, ◌∙◌, ap}
+use Rattle.std.proofs.Common.{◌≡◌, ◌⊎◌, inl, inr, ℕ, List, Result, Ok, Err, sym, ◌∙◌, ap, subst}
 use Rattle.std.specs.Prelude.{⊤}
+use Rattle.std.specs.Result.{IsErr, IsErrAnd}
 use Rattle.eb_server.specs.declared.ending.Ending.{Ending}
 use Rattle.eb_text.specs.Command.{Command, AnswerRam, Answer, Sim, Build, Tour, Load, Replay, Show, IsCommand, IsNoCommand, IsReplay}
 use Rattle.eb_text.specs.declared.fault.Fault.{Fault}
@@ -12,7 +13,7 @@ use Rattle.eb_run.specs.declared.plain.Family.TheVariants.{Plain, Shared}
 
 -- words that wait for nobody are no replay
 pub alone : (words : List (List ℕ)) (c : Command) → family words ≡ Plain → IsCommand words c → IsAlone c
-alone words (AnswerRam octets capture) plain is = tt
+alone words (AnswerRam octets capture) plain is = is.size
 alone words (Answer name capture) plain is = tt
 alone words (Sim name script wave) plain is = tt
 alone words (Build name) plain is = tt
@@ -43,3 +44,7 @@ comes_alone run (Tour name) r alone_so comes = comes
 comes_alone run (Load start cycles) r alone_so comes = comes
 comes_alone run (Replay name captures) r alone_so comes = absurd alone_so
 comes_alone run (Show text) r alone_so comes = comes
+
+pub failed_plainly : (comes : Result ⊤ Fault → Type 0) (r : Result Ending Fault) (f : Fault) → IsErr r → IsErrAnd r (λ e. e ≡ f) → comes (Err f) → Plainly comes r
+failed_plainly comes (Ok e) f is gives so = absurd (cc)
+failed_plainly comes (Err g) f is gives so = subst (λ (x : Fault). comes (Err x)) (sym gives) so

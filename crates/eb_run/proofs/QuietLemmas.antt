@@ -37,7 +37,7 @@ use Rattle.eb_run.specs.Run.{Run}
 use Rattle.eb_run.specs.Files.{IsDescribed, IsScripted, ReadToEnd, ReadsFile, ReadsDescription}
 use Rattle.eb_run.specs.Streams.{System, ServedOn, ServedCapture, AnswersCapture, ram_system, described_system, result_of}
 use Rattle.eb_run.specs.Commands.{SendsText, MakesText, ShowsRun, WithScript, ComesTo}
-use Rattle.eb_run.specs.Top.{HoldsOctets, AllHold, IsQuiet, IsRefused, EndsWith, RunsAs, Decides}
+use Rattle.eb_run.specs.Top.{HoldsOctets, AllHold, IsQuiet, IsUndescribed, EndsWith, RunsAs, Decides}
 
 -- ---- what a source told
 
@@ -265,7 +265,7 @@ module _ {F : Type 0} (run : Run F) (held : List (List ℕ)) (quiet : IsQuiet ru
   one_read file are = (are_quiet (file ∷ []) are).1 0 file (omega arith)
 
   -- a fault of a description that was read
-  pub ill : {T : Type 0} (decides : List (List ℕ) → Type 0) (name : List ℕ) (r : Result T Fault) (f : Fault) → ((text : List ℕ) → IsRefused text r → decides (text ∷ []))
+  pub ill : {T : Type 0} (decides : List (List ℕ) → Type 0) (name : List ℕ) (r : Result T Fault) (f : Fault) → ((text : List ℕ) → IsUndescribed text r → decides (text ∷ []))
       → r ≡ Err f → ReadsDescription run.reading run.world run.world' name (Err f) → (r ≡ Err fault.NoMemory) ⊎ decides held
   ill decides name r f so is reads =
       elim (read_ill run.reading run.world run.world' name IsDescribed f quiet.open_faults one_read reads) [
@@ -377,7 +377,7 @@ module _ {F : Type 0} (run : Run F) (held : List (List ℕ)) (quiet : IsQuiet ru
 one_end : (bus : Width) (octets : List ℕ) (a b : Result ⊤ Fault) → EndsWith bus octets a → EndsWith bus octets b → a ≡ b
 one_end bus octets a b x y = x.2 ∙ ap result_of (only_ending (sets_of bus) octets x.0 y.0 x.1 y.1) ∙ sym y.2
 
-pub one_refusal : {T : Type 0} (text : List ℕ) (a b : Result T Fault) → IsRefused text a → IsRefused text b → a ≡ b
+pub one_refusal : {T : Type 0} (text : List ℕ) (a b : Result T Fault) → IsUndescribed text a → IsUndescribed text b → a ≡ b
 one_refusal text a b x y =
     let both : ◌≡◌ {A = Found Description} (Err x.0) (Err y.0) = sym x.1 ∙ y.1 in
     let same : x.0 ≡ y.0 = cc in
@@ -388,14 +388,14 @@ one_description text d other x y =
     let both : ◌≡◌ {A = Found Description} (Ok d) (Ok other) = sym x ∙ y in
     cc
 
-pub not_both : {T : Type 0} (text : List ℕ) (d : Description) (a : Result T Fault) → described text ≡ Ok d → IsRefused text a → ⊥
+pub not_both : {T : Type 0} (text : List ℕ) (d : Description) (a : Result T Fault) → described text ≡ Ok d → IsUndescribed text a → ⊥
 not_both text d a x y =
     let both : ◌≡◌ {A = Found Description} (Ok d) (Err y.0) = sym x ∙ y.1 in
     cc
 
 -- the text is a description of which something is made, or is refused
-one_making : (text : List ℕ) (a b : Result ⊤ Fault) → ((d : Description) × (described text ≡ Ok d) × (a ≡ Ok tt)) ⊎ IsRefused text a
-    → ((d : Description) × (described text ≡ Ok d) × (b ≡ Ok tt)) ⊎ IsRefused text b → a ≡ b
+one_making : (text : List ℕ) (a b : Result ⊤ Fault) → ((d : Description) × (described text ≡ Ok d) × (a ≡ Ok tt)) ⊎ IsUndescribed text a
+    → ((d : Description) × (described text ≡ Ok d) × (b ≡ Ok tt)) ⊎ IsUndescribed text b → a ≡ b
 one_making text a b (inl x) (inl y) = x.2 ∙ sym y.2
 one_making text a b (inl x) (inr y) = absurd (not_both text x.0 b x.1 y)
 one_making text a b (inr x) (inl y) = absurd (not_both text y.0 a y.1 x)

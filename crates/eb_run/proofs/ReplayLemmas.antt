@@ -46,20 +46,36 @@ module _ {F : Type 0} (run : Run F) (name : List ℕ) (captures : List (List ℕ
     pub comes_replayed : (r : ReplayState) (result : Result Ending Fault) → ReplaysLast run.reading d count mid run.world' (Ok r) → SendsEnd run.out run.out' (replay_text r) (first_unclean r.ports) result
         → ComesToEnd run (Replay name captures) result
     comes_replayed r result last sends =
-        inr (d, between, reads, inr (inr (few, record {
-          between = mid;
-          opening = opened;
-          files = last.files';
-          world_is = world_is run.reading d between mid run.world' captures count is opened (Ok r) last;
-          came = inr (r, was_replayed run.reading d between mid run.world' captures count is opened r last, sends);
-        })))
+        inr (
+          d,
+          between,
+          reads,
+          inr (inr (
+            few,
+            record {
+              between = mid;
+              opening = opened;
+              files = last.files';
+              world_is = world_is run.reading d between mid run.world' captures count is opened (Ok r) last;
+              came = inr (r, was_replayed run.reading d between mid run.world' captures count is opened r last, sends);
+            },
+          )),
+        )
 
     pub comes_unreplayed : (none : NoMemory) → ReplaysLast run.reading d count mid run.world' (Err none) → run.out' ≡ run.out → ComesToEnd run (Replay name captures) (Err fault.NoMemory)
     comes_unreplayed none last out =
-        inr (d, between, reads, inr (inr (few, record {
-          between = mid;
-          opening = opened;
-          files = last.files';
-          world_is = world_is run.reading d between mid run.world' captures count is opened (Err none) last;
-          came = inl (refl, as_opened run.reading d between mid run.world' captures count is opened none last, out);
-        })))
+        inr (
+          d,
+          between,
+          reads,
+          inr (inr (
+            few,
+            record {
+              between = mid;
+              opening = opened;
+              files = last.files';
+              world_is = world_is run.reading d between mid run.world' captures count is opened (Err none) last;
+              came = inl (refl, as_opened run.reading d between mid run.world' captures count is opened none last, out);
+            },
+          )),
+        )

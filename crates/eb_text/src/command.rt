@@ -180,7 +180,8 @@ fn are_named(words: &[String]) -> bool
 /// The description and the captures that the words `replay DESC CAPTURE..` name; none where they are other words.
 pub fn replay_of(words: &[String]) -> Option<(&str, &[String])>
     ensures { MatchOption result
-        ((description : List ℕ) (captures : List (List ℕ)) → IsReplay (map string_bytes words.now) description captures → ⊥)
+        ((description : List ℕ) (captures : List (List ℕ)) → IsReplay (map string_bytes words.now) description captures
+        → ⊥)
         (λ x. IsReplay (map string_bytes words.now) x.0.now (map string_bytes x.1.now)) }
 {
     let [first, description, captures @ ..] = words else {

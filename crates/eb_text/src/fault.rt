@@ -26,7 +26,7 @@ pub enum Fault {
     TooLong,
     /// There was no memory.
     NoMemory,
-    /// The line of the script with this number, from 1, is the first that breaks a rule; 0 where the script is too long.
+    /// The script's line of this number, from 1, is the first that breaks a rule; 0 where the script is too long.
     Script(u32),
 }
 
