@@ -80,14 +80,13 @@ module _ {F : Type 0} (reading : F → Reading) (s : Slave) (file : F) (fresh : 
       let some : 0 < c.read_faults = omega (arith, failed.rose.1, gave.faults) in
       elim b as (λ q. c.refused ≡ q → IsTold octets items answers (told_ending q ending.ReadFault)) [
         | true ↦ λ refused. (
-              (omega (arith, few), record { next = next; given = refl; faults = (kept.room_refused refused).1 ∙ sym fresh.faults }),
-              inr ran,
-              same,
-              whole _ took,
-            )
+          (omega (arith, few), record { next = next; given = refl; faults = (kept.room_refused refused).1 ∙ sym fresh.faults }),
+          inr ran,
+          same,
+          whole _ took,
+        )
         | false ↦ λ refused.
-            let rose : 0 < (reading c.file).faults = kept.file_failed some took.faults refused in
-            (
+            let rose : 0 < (reading c.file).faults = kept.file_failed some took.faults refused in (
               (
                 few,
                 record { given = None; left = (reading c.file).left; faults = (reading file).faults },

@@ -146,9 +146,9 @@ module _ {F : Type 0} (reading : F → Reading) (d : Description) (turn : TableI
     (passes : List (PassView BusState)) (ports : List PortState) (journal : List Entry) where
   served_new : (s : Slave) (file : F) (old new : Lane (CaptureState F)) → old.link ≡ new_capture file → old.session ≡ new_session s → cycles_told old.pass ≡ no_cycles
       → Served (number_told old.pass) old.session.slave (cycles_told old.pass) (cycles_told new.pass) (capture_reading reading old.link) (capture_reading reading new.link)
-        (capture_writing old.link) (capture_writing new.link) new.ending
+      (capture_writing old.link) (capture_writing new.link) new.ending
       → Served (number_told old.pass) s no_cycles (cycles_told new.pass) (capture_reading reading (new_capture file)) (capture_reading reading new.link)
-        (capture_writing (new_capture file)) (capture_writing new.link) new.ending
+      (capture_writing (new_capture file)) (capture_writing new.link) new.ending
   served_new s file old new link session none served =
       subst (λ (k : CaptureState F). Served (number_told old.pass) s no_cycles (cycles_told new.pass) (capture_reading reading k) (capture_reading reading new.link) (capture_writing k) (capture_writing new.link) new.ending) link
       (subst (λ (c : MasterCycles). Served (number_told old.pass) s c (cycles_told new.pass) (capture_reading reading old.link) (capture_reading reading new.link) (capture_writing old.link) (capture_writing new.link) new.ending) none
