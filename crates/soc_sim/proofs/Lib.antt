@@ -3,4 +3,4 @@ mod WatchedLemmas
 mod MayLemmas
 mod Preparing
 mod UnderWay
-mod LineLaws
+pub mod LineLaws
