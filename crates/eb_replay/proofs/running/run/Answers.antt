@@ -24,15 +24,15 @@ returns g c =
     }
 
 pub serve-requires-clause-passes : goal.serve-requires-clause-passes
-serve-requires-clause-passes g c =
+serve-requires-clause-passes g c = λ lifetimes lives.
     all_there c.args.prepared.turn (replay_slave c.args.prepared.root.origin.description) c.args.files.items c.seat.new.lanes.items c.seat.ensures.seated
 
 pub serve-requires-clause-sessions : goal.serve-requires-clause-sessions
-serve-requires-clause-sessions g c =
+serve-requires-clause-sessions g c = λ lifetimes lives.
     all_fresh c.args.prepared.turn c.args.prepared.root.origin.description c.args.files.items c.seat.new.lanes.items c.seat.ensures.seated
 
 pub serve-requires-clause-rooms : goal.serve-requires-clause-rooms
-serve-requires-clause-rooms g c =
+serve-requires-clause-rooms g c = λ lifetimes lives.
     all_rooms c.args.prepared.turn (replay_slave c.args.prepared.root.origin.description) c.args.files.items c.seat.new.lanes.items c.seat.ensures.seated
 
 pub add_all-requires-clause-there : goal.add_all-requires-clause-there
