@@ -1,4 +1,4 @@
-use Rattle.std.proofs.Common.{rules, ◌≡◌, List, ◌++◌, ap}
+use Rattle.std.proofs.Common.{rules, ◌≡◌, ◌++◌, ap}
 use Rattle.soc_journal.specs.Text.{journal_text}
 use Rattle.eb_io.proofs.WritingLemmas.{wrong_first, wrote_both}
 use Rattle.eb_replay.specs.Text.{port_lines, replay_text}
