@@ -1,23 +1,22 @@
 -- What a served link to a capture says of its file.
-use Rattle.std.proofs.Common.{◌≡◌, ◌≢◌, ℕ, ◌+◌, ◌-◌, ◌^◌, ◌<◌, ◌≤◌, Bool, true, false, List, [], ◌∷◌, ◌++◌, length, min, Option, None, Some, refl, sym, ap, ◌∙◌, subst, arith, length-append, ◌⊎◌, inl, inr}
+use Rattle.std.proofs.Common.{◌≡◌, ℕ, ◌+◌, ◌<◌, ◌≤◌, Bool, true, false, List, [], length, Option, None, Some, refl, sym, ap, ◌∙◌, subst, arith, length-append, inl, inr}
 use Rattle.std.specs.Prelude.{IfSome}
-use Rattle.std.specs.Io.KnownBytes.{prepend_known, append_known, IsAtEnd}
-use Rattle.eb_io.specs.Counts.{Rose}
+use Rattle.std.specs.Io.KnownBytes.{prepend_known}
 use Rattle.eb_io.specs.Outside.{IsFresh}
 use Rattle.eb_io.specs.Reading.{Reading, Gave, ReadFailed}
-use Rattle.eb_io.specs.Writing.{Told, Octets, told_more, Took, WroteFront}
-use Rattle.eb_codec.specs.Stream.{StreamItem, SpellsAll}
+use Rattle.eb_io.specs.Writing.{Told, Octets, Took, WroteFront}
+use Rattle.eb_codec.specs.Stream.{StreamItem}
 use Rattle.wb_signals.specs.History.{Entry, given}
 use Rattle.wb_signals.specs.Cycles.{MasterCycles}
 use Rattle.wb_signals.specs.declared.answer.Answer.{Answer}
 use Rattle.eb_session.specs.declared.slave.Slave.{Slave}
 use Rattle.eb_session.specs.Cycles.{Fit}
-use Rattle.eb_session.specs.Replies.{sets_of, replies}
+use Rattle.eb_session.specs.Replies.{replies}
 use Rattle.eb_server.specs.declared.ending.Ending.{Ending}
 use Rattle.eb_server.specs.declared.ending.Ending.TheVariants as ending
 use Rattle.eb_server.specs.Serving.{most_octets, Served, WasRead, HaveRun, WereAnswered, AllRan, BeginOctets}
 use Rattle.eb_replay.specs.Capture.{CaptureState, IsCapture, new_capture, capture_reading, capture_writing}
-use Rattle.eb_replay.specs.Ports.{PortState, told_ending, but_given, HasReplayed, ServedFile}
+use Rattle.eb_replay.specs.Ports.{told_ending, but_given, HasReplayed, ServedFile}
 use Rattle.eb_replay.proofs.ShortLemmas.{replies_short}
 
 abbrev list_in : Option (List ℕ) → List ℕ

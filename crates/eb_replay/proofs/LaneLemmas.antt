@@ -1,17 +1,15 @@
 -- Lanes as they are made, served and taken apart.
-use Rattle.std.proofs.Common.{◌≡◌, ℕ, zero, suc, ◌+◌, ◌-◌, ◌<◌, ◌≤◌, List, [], ◌∷◌, ◌++◌, length, map, get_or, Some, Option, inl, inr, refl, sym, ap, ◌∙◌, subst, arith, length-append, append_assoc}
-use Rattle.std.specs.Prelude.{All, IfSome, IsSome}
+use Rattle.std.proofs.Common.{◌≡◌, ℕ, ◌+◌, ◌<◌, ◌≤◌, List, [], ◌∷◌, ◌++◌, length, map, get_or, Some, Option, inl, inr, refl, sym, ap, ◌∙◌, subst, arith, length-append}
+use Rattle.std.specs.Prelude.{All}
 use Rattle.std.proofs.lemmas.List.{get_or_append_left, get_or_push, get_or_at, get_or-map, length-map, map-append}
 use Rattle.std.proofs.lemmas.List.Elements.{All-cons, All-append}
 use Rattle.std.proofs.lemmas.Bool.{cases_lt}
 use Rattle.atomic_table.specs.Seated.{TableId}
 use Rattle.eb_io.specs.Reading.{Reading}
-use Rattle.eb_io.specs.Writing.{Writing}
 use Rattle.eb_io.specs.Outside.{IsFresh}
 use Rattle.wb_signals.specs.Cycles.{MasterCycles}
 use Rattle.wb_signals.specs.History.{Entry, IsLegal, own}
 use Rattle.soc_desc.specs.declared.description.Description.{Description}
-use Rattle.soc_machine.specs.Described.{described_wiring, described_contents}
 use Rattle.soc_turn.specs.Views.{PassView}
 use Rattle.soc_core.specs.Built.{fabric_of}
 use Rattle.soc_bus.specs.View.{BusState}
@@ -24,9 +22,9 @@ use Rattle.eb_shared.specs.declared.lanes.Lane.{Lane}
 use Rattle.eb_shared.specs.Shared.{number_told, cycles_told, made_by}
 use Rattle.eb_shared.specs.Lanes.{IsThere, IsFreshSession}
 use Rattle.eb_replay.specs.Capture.{CaptureState, IsCapture, new_capture, capture_reading, capture_writing}
-use Rattle.eb_replay.specs.Ports.{PortState, ServedFile}
-use Rattle.eb_replay.specs.Replay.{ReplayState, Replays, replay_slave}
-use Rattle.eb_replay.specs.Lanes.{EachAt, IsUnused, IsSeated, AreServed, HaveEnded, port_of}
+use Rattle.eb_replay.specs.Ports.{PortOutcome, ServedFile}
+use Rattle.eb_replay.specs.Replay.{Replays, replay_slave}
+use Rattle.eb_replay.specs.Lanes.{EachAt, IsUnused, IsSeated, LanesServed, HaveEnded, port_of}
 use Rattle.eb_replay.proofs.CaptureLemmas.{served_file}
 
 -- ---- items by their places
@@ -117,7 +115,7 @@ passes_of turn lanes passes are there i p lt =
 
 -- ---- lanes taken apart
 
-pub ended_none : {F : Type 0} (reading : F → Reading) (files : List F) (passes : List (PassView BusState)) (ports : List PortState) → files ≡ [] → passes ≡ [] → ports ≡ []
+pub ended_none : {F : Type 0} (reading : F → Reading) (files : List F) (passes : List (PassView BusState)) (ports : List PortOutcome) → files ≡ [] → passes ≡ [] → ports ≡ []
     → HaveEnded reading [] files passes ports
 ended_none reading files passes ports f p q = record {
   files_are = f;
@@ -126,7 +124,7 @@ ended_none reading files passes ports f p q = record {
   kept = λ i d lt. absurd (omega (arith, lt));
 }
 
-pub ended_more : {F : Type 0} (reading : F → Reading) (lanes : List (Lane (CaptureState F))) (lane : Lane (CaptureState F)) (files files' : List F) (passes passes' : List (PassView BusState)) (ports ports' : List PortState)
+pub ended_more : {F : Type 0} (reading : F → Reading) (lanes : List (Lane (CaptureState F))) (lane : Lane (CaptureState F)) (files files' : List F) (passes passes' : List (PassView BusState)) (ports ports' : List PortOutcome)
     → HaveEnded reading lanes files passes ports → files' ≡ files ++ lane.link.file ∷ [] → map (λ p. Some p) passes' ≡ map (λ p. Some p) passes ++ lane.pass ∷ [] → ports' ≡ ports ++ port_of lane ∷ []
     → IsCapture reading lane.link → HaveEnded reading (lanes ++ lane ∷ []) files' passes' ports'
 ended_more reading lanes lane files files' passes passes' ports ports' ended f p q one = record {
@@ -143,7 +141,7 @@ abbrev no_cycles : MasterCycles
 no_cycles = record { made = []; opened = [] }
 
 module _ {F : Type 0} (reading : F → Reading) (d : Description) (turn : TableId) (files files' : List F) (lanes lanes' : List (Lane (CaptureState F)))
-    (passes : List (PassView BusState)) (ports : List PortState) (journal : List Entry) where
+    (passes : List (PassView BusState)) (ports : List PortOutcome) (journal : List Entry) where
   served_new : (s : Slave) (file : F) (old new : Lane (CaptureState F)) → old.link ≡ new_capture file → old.session ≡ new_session s → cycles_told old.pass ≡ no_cycles
       → Served (number_told old.pass) old.session.slave (cycles_told old.pass) (cycles_told new.pass) (capture_reading reading old.link) (capture_reading reading new.link)
       (capture_writing old.link) (capture_writing new.link) new.ending
@@ -162,9 +160,9 @@ module _ {F : Type 0} (reading : F → Reading) (d : Description) (turn : TableI
       ap (λ q. (cycles_told q).made) (sym is) ∙ sym mine ∙ ap (λ k. own k journal) here
 
   pub all_served : All (λ f. IsFresh (reading f)) files → length lanes ≡ length files → length lanes' ≡ length lanes → EachAt (IsSeated turn (replay_slave d) files) lanes
-      → AreServed reading lanes lanes'
+      → LanesServed reading lanes lanes'
       → HaveEnded reading lanes' files' passes ports → All (λ p. own p.number journal ≡ made_by p) passes
-      → (i : ℕ) (f f' : F) (p : PortState) → i < length files
+      → (i : ℕ) (f f' : F) (p : PortOutcome) → i < length files
       → ServedFile (replay_slave d) (reading (get_or files i f)) (reading (get_or files' i f')) (own i journal) (get_or ports i p)
   all_served fresh count count' seated served ended owns i f f' p lt =
       let lt0 : i < length lanes = omega (arith, lt, count) in
@@ -182,14 +180,14 @@ module _ {F : Type 0} (reading : F → Reading) (d : Description) (turn : TableI
       let port : port_of new ≡ get_or ports i p = sym (ap (λ xs. get_or xs i p) ended.ports_are ∙ get_or-map port_of lanes' i l p lt1) in
       let mine : (cycles_told new.pass).made ≡ own i journal =
       own_part i (get_or passes i pass) new (pass_at lanes' passes ended.passes_are i pass l lt2 lt1) (served.numbers i l lt0 ∙ seat.number) (owns i pass lt2) in
-      subst (λ (q : PortState). ServedFile (replay_slave d) (reading (get_or files i f)) (reading (get_or files' i f')) (own i journal) q) port
+      subst (λ (q : PortOutcome). ServedFile (replay_slave d) (reading (get_or files i f)) (reading (get_or files' i f')) (own i journal) q) port
       (subst (λ (es : List Entry). ServedFile (replay_slave d) (reading (get_or files i f)) (reading (get_or files' i f')) es (port_of new)) mine
       (subst (λ (k : F). ServedFile (replay_slave d) (reading (get_or files i f)) (reading k) (cycles_told new.pass).made (port_of new)) file one))
 
   pub replays : (bus : BusState) → bus.core.journal ≡ journal → bus.description ≡ d
       → IsLegal (fabric_of bus.description).wiring (fabric_of bus.description).built bus.core.journal → length lanes ≡ length files → length lanes' ≡ length lanes
       → HaveEnded reading lanes' files' passes ports
-      → ((i : ℕ) (f f' : F) (p : PortState) → i < length files → ServedFile (replay_slave d) (reading (get_or files i f)) (reading (get_or files' i f')) (own i journal) (get_or ports i p))
+      → ((i : ℕ) (f f' : F) (p : PortOutcome) → i < length files → ServedFile (replay_slave d) (reading (get_or files i f)) (reading (get_or files' i f')) (own i journal) (get_or ports i p))
       → ((m : ℕ) → length files ≤ m → own m journal ≡ []) → Replays reading d files files' (record { ports = ports; journal = journal })
   replays bus journal_is described legal count count' ended served others = record {
     legal = subst (λ (x : Description). IsLegal (fabric_of x).wiring (fabric_of x).built journal) described

@@ -1,5 +1,5 @@
 -- Replies are no longer than what they answer.
-use Rattle.std.proofs.Common.{◌≡◌, ℕ, ◌+◌, ◌≤◌, List, [], ◌∷◌, ◌++◌, length, take, drop, Option, refl, ap, ◌∙◌, arith, length-append}
+use Rattle.std.proofs.Common.{◌≡◌, ℕ, ◌+◌, ◌≤◌, List, [], ◌∷◌, ◌++◌, length, take, drop, Option, ap, ◌∙◌, arith, length-append}
 use Rattle.eb_codec.specs.declared.item.Header.{Header}
 use Rattle.eb_codec.specs.Stream.{StreamItem, SpellsAll, header_after}
 use Rattle.wb_signals.specs.declared.answer.Answer.{Answer}

@@ -1,27 +1,27 @@
 -- Ports one by one.
-use Rattle.std.proofs.Common.{◌≡◌, ◌≢◌, ℕ, suc, ◌+◌, ◌<◌, List, [], ◌∷◌, ◌++◌, length, drop, get_or, add-one, refl, sym, ap, ◌∙◌, subst, arith, append_assoc}
+use Rattle.std.proofs.Common.{◌≡◌, ℕ, suc, ◌+◌, ◌<◌, List, ◌∷◌, ◌++◌, length, drop, get_or, add-one, refl, sym, ap, ◌∙◌, subst}
 use Rattle.std.proofs.Math.Seq.{drop-cons}
 use Rattle.eb_io.specs.Reading.{Reading}
 use Rattle.eb_io.specs.Writing.{Writing}
 use Rattle.eb_io.proofs.WritingLemmas.{Went}
 use Rattle.eb_server.specs.declared.ending.Ending.{Ending}
 use Rattle.eb_server.specs.declared.ending.Ending.TheVariants as ending
-use Rattle.eb_replay.specs.Ports.{PortState}
-use Rattle.eb_replay.specs.Text.{port_line, port_lines, unclean_or, first_unclean}
+use Rattle.eb_replay.specs.Ports.{PortOutcome}
+use Rattle.eb_replay.specs.Text.{reply_line, reply_lines, unclean_or, first_unclean}
 
-ahead : (xs : List PortState) (i : ℕ) (x : PortState) → i < length xs → x ≡ get_or xs i x → drop i xs ≡ x ∷ drop (i + 1) xs
-ahead xs i x lt is = rw add-one (drop-cons xs i x lt ∙ ap (λ (y : PortState). y ∷ drop (suc i) xs) (sym is))
+ahead : (xs : List PortOutcome) (i : ℕ) (x : PortOutcome) → i < length xs → x ≡ get_or xs i x → drop i xs ≡ x ∷ drop (i + 1) xs
+ahead xs i x lt is = rw add-one (drop-cons xs i x lt ∙ ap (λ (y : PortOutcome). y ∷ drop (suc i) xs) (sym is))
 
-lines_ahead : (xs : List PortState) (i : ℕ) (x : PortState) → i < length xs → x ≡ get_or xs i x → port_lines i (drop i xs) ≡ port_line i x ++ port_lines (i + 1) (drop (i + 1) xs)
-lines_ahead xs i x lt is = rw add-one (ap (port_lines i) (drop-cons xs i x lt ∙ ap (λ (y : PortState). y ∷ drop (suc i) xs) (sym is)))
+lines_ahead : (xs : List PortOutcome) (i : ℕ) (x : PortOutcome) → i < length xs → x ≡ get_or xs i x → reply_lines i (drop i xs) ≡ reply_line i x ++ reply_lines (i + 1) (drop (i + 1) xs)
+lines_ahead xs i x lt is = rw add-one (ap (reply_lines i) (drop-cons xs i x lt ∙ ap (λ (y : PortOutcome). y ∷ drop (suc i) xs) (sym is)))
 
 module _ {S : Type 0} (writing : S → Writing) (reading : S → Reading) where
   -- the line of a port is the next part
-  pub next_port : (old mid : S) (text : List ℕ) (xs : List PortState) (i number : ℕ) (x : PortState) → i < length xs → x ≡ get_or xs i x → number ≡ i
-      → Went writing reading old mid text (port_lines i (drop i xs)) → Went writing reading old mid text (port_line number x ++ port_lines (i + 1) (drop (i + 1) xs))
+  pub next_port : (old mid : S) (text : List ℕ) (xs : List PortOutcome) (i number : ℕ) (x : PortOutcome) → i < length xs → x ≡ get_or xs i x → number ≡ i
+      → Went writing reading old mid text (reply_lines i (drop i xs)) → Went writing reading old mid text (reply_line number x ++ reply_lines (i + 1) (drop (i + 1) xs))
   next_port old mid text xs i number x lt is same went =
       subst (λ (l : List ℕ). Went writing reading old mid text l)
-      (lines_ahead xs i x lt is ∙ ap (λ (n : ℕ). port_line n x ++ port_lines (i + 1) (drop (i + 1) xs)) (sym same)) went
+      (lines_ahead xs i x lt is ∙ ap (λ (n : ℕ). reply_line n x ++ reply_lines (i + 1) (drop (i + 1) xs)) (sym same)) went
 
 -- ---- the first ending that isn't clean
 
@@ -34,8 +34,8 @@ unclean_here ending.WriteFault rest not = refl
 unclean_here ending.TooLong rest not = refl
 unclean_here ending.NoMemory rest not = refl
 
-pub clean_before : (xs : List PortState) (i : ℕ) (x : PortState) → i < length xs → x ≡ get_or xs i x → x.ending ≡ ending.Clean → first_unclean (drop i xs) ≡ first_unclean (drop (i + 1) xs)
+pub clean_before : (xs : List PortOutcome) (i : ℕ) (x : PortOutcome) → i < length xs → x ≡ get_or xs i x → x.ending ≡ ending.Clean → first_unclean (drop i xs) ≡ first_unclean (drop (i + 1) xs)
 clean_before xs i x lt is clean = ap first_unclean (ahead xs i x lt is) ∙ ap (λ (e : Ending). unclean_or e (first_unclean (drop (i + 1) xs))) clean
 
-pub unclean_at : (xs : List PortState) (i : ℕ) (x : PortState) → i < length xs → x ≡ get_or xs i x → (x.ending ≡ ending.Clean → ⊥) → first_unclean (drop i xs) ≡ x.ending
+pub unclean_at : (xs : List PortOutcome) (i : ℕ) (x : PortOutcome) → i < length xs → x ≡ get_or xs i x → (x.ending ≡ ending.Clean → ⊥) → first_unclean (drop i xs) ≡ x.ending
 unclean_at xs i x lt is not = ap first_unclean (ahead xs i x lt is) ∙ unclean_here x.ending (first_unclean (drop (i + 1) xs)) not

@@ -12,7 +12,7 @@ use Rattle.eb_shared.specs.declared.lanes.Lane.{Lane}
 use Rattle.eb_shared.specs.Shared.{number_told, cycles_told}
 use Rattle.eb_shared.specs.Lanes.{IsThere}
 use Rattle.eb_replay.specs.Capture.{CaptureState, IsCapture, new_capture, capture_reading, capture_writing}
-use Rattle.eb_replay.specs.Ports.{PortState, told_ending}
+use Rattle.eb_replay.specs.Ports.{PortOutcome, told_ending}
 use Rattle.eb_replay.specs.declared.lanes.LaneRoom.{LaneRoom}
 use Rattle.eb_replay.specs.declared.lanes.Ended.{Ended}
 
@@ -35,7 +35,7 @@ pub record IsSeated {F : Type 0} (turn : TableId) (s : Slave) (files : List F) (
   pub none : cycles_told lane.pass ≡ record { made = []; opened = [] }
 
 -- The streams of lanes were served, each with its master's pass.
-pub record AreServed {F : Type 0} (reading : F → Reading) (lanes lanes' : List (Lane (CaptureState F))) : Type 0 where
+pub record LanesServed {F : Type 0} (reading : F → Reading) (lanes lanes' : List (Lane (CaptureState F))) : Type 0 where
   pub numbers : (i : ℕ) (l : Lane (CaptureState F)) → i < length lanes → number_told (slice_index_or lanes' i l).pass ≡ number_told (slice_index_or lanes i l).pass
   pub streams : (i : ℕ) (l : Lane (CaptureState F)) → i < length lanes → Served (number_told (slice_index_or lanes i l).pass) (slice_index_or lanes i l).session.slave
       (cycles_told (slice_index_or lanes i l).pass) (cycles_told (slice_index_or lanes' i l).pass)
@@ -55,11 +55,11 @@ pub record HasSpace {F : Type 0} (n : ℕ) (e : Ended F) : Type 0 where
   pub ports : length e.ports.items + n ≤ vec_capacity e.ports
 
 -- What is kept of a lane.
-abbrev pub port_of : {F : Type 0} → Lane (CaptureState F) → PortState
+abbrev pub port_of : {F : Type 0} → Lane (CaptureState F) → PortOutcome
 port_of lane = record { ending = told_ending lane.link.refused lane.ending; reply = lane.link.replies }
 
 -- Lanes were taken apart, in their order.
-pub record HaveEnded {F : Type 0} (reading : F → Reading) (lanes : List (Lane (CaptureState F))) (files : List F) (passes : List (PassView BusState)) (ports : List PortState) : Type 0 where
+pub record HaveEnded {F : Type 0} (reading : F → Reading) (lanes : List (Lane (CaptureState F))) (files : List F) (passes : List (PassView BusState)) (ports : List PortOutcome) : Type 0 where
   pub files_are : files ≡ map (λ lane. lane.link.file) lanes
   pub passes_are : map (λ pass. Some pass) passes ≡ map (λ lane. lane.pass) lanes
   pub ports_are : ports ≡ map port_of lanes

@@ -11,7 +11,7 @@ use Rattle.eb_server.specs.declared.ending.Ending.TheVariants as ending
 use Rattle.eb_server.specs.Serving.{WasRead, HaveRun, AllRan}
 
 -- How the stream of a port ended, and the octets of its reply.
-pub record PortState : Type 0 where
+pub record PortOutcome : Type 0 where
   pub ending : Ending
   pub reply : List ℕ
 
@@ -34,7 +34,7 @@ HasReplayed s octets items e = HaveRun s octets items e
 -- The stream of a file, which had given nothing, was served, and these are its master's entries. It gave these octets, and no
 -- others where it tells what it gave; these items ran; the entries fit the cycles of these items; and what was replied are the
 -- whole replies to these items with the answers of these entries.
-pub record ServedFile (s : Slave) (file file' : Reading) (entries : List Entry) (port : PortState) : Type 0 where
+pub record ServedFile (s : Slave) (file file' : Reading) (entries : List Entry) (port : PortOutcome) : Type 0 where
   pub octets : List ℕ
   pub items : List StreamItem
   pub read : WasRead (but_given file) (but_given file') octets port.ending

@@ -6,11 +6,11 @@ use Rattle.wb_signals.specs.History.{Entry, IsLegal, own}
 use Rattle.soc_desc.specs.declared.description.Description.{Description}
 use Rattle.soc_machine.specs.Described.{described_wiring, described_contents}
 use Rattle.eb_session.specs.declared.slave.Slave.{Slave}
-use Rattle.eb_replay.specs.Ports.{PortState, ServedFile}
+use Rattle.eb_replay.specs.Ports.{PortOutcome, ServedFile}
 
 -- What is kept of a replay: each port in the order of the captures, and the entries of the one journal.
 pub record ReplayState : Type 0 where
-  pub ports : List PortState
+  pub ports : List PortOutcome
   pub journal : List Entry
 
 -- The slave at which every capture is replayed: its bus is the described one, whose SDB ROM is at the root address.
@@ -24,6 +24,6 @@ pub record Replays {F : Type 0} (reading : F → Reading) (d : Description) (fil
   pub legal : IsLegal (described_wiring d) (described_contents d) r.journal
   pub files_count : length files' ≡ length files
   pub ports_count : length r.ports ≡ length files
-  pub served : (i : ℕ) (f f' : F) (p : PortState) → i < length files
+  pub served : (i : ℕ) (f f' : F) (p : PortOutcome) → i < length files
       → ServedFile (replay_slave d) (reading (slice_index_or files i f)) (reading (slice_index_or files' i f')) (own i r.journal) (slice_index_or r.ports i p)
   pub others : (m : ℕ) → length files ≤ m → own m r.journal ≡ []

@@ -8,7 +8,7 @@ ghost use Rattle.eb_shared.specs.Lanes.{IsThere, IsFreshSession};
 ghost use Rattle.eb_shared.specs.Shared.{number_told, cycles_told};
 ghost use Rattle.eb_replay.specs.Capture.{IsCapture, new_capture};
 ghost use Rattle.eb_replay.specs.Replay.{replay_slave};
-ghost use Rattle.eb_replay.specs.Lanes.{AreServed, EachAt, HasNone, HasSpace, HaveEnded, IsUnused, IsSeated, port_of};
+ghost use Rattle.eb_replay.specs.Lanes.{LanesServed, EachAt, HasNone, HasSpace, HaveEnded, IsUnused, IsSeated, port_of};
 
 use crate::capture::CaptureLink;
 use crate::replayed::ReplayedPort;
@@ -133,7 +133,7 @@ pub(crate) fn serve<R: Threads + Wait + Sync, F: Source + Send + Drop>(
     requires rooms { All (λ l. HasRoom l.rooms) lanes.old.items }
     ensures count { length lanes.new.items ≡ length lanes.old.items }
     ensures passes { All (λ l. IsThere turn.now l.pass) lanes.new.items }
-    ensures served { AreServed F.reading lanes.old.items lanes.new.items }
+    ensures served { LanesServed F.reading lanes.old.items lanes.new.items }
 {
     serve_links(rt, alloc, turn, lanes);
 }

@@ -11,9 +11,9 @@ pub struct ReplayedPort {
 }
 
 impl Model for ReplayedPort {
-    ghost use Rattle.eb_replay.specs.Ports.{PortState};
+    ghost use Rattle.eb_replay.specs.Ports.{PortOutcome};
 
-    ghost Value = { PortState };
+    ghost Value = { PortOutcome };
 
     ghost view = { λ p. record { ending = p.ending; reply = p.reply.items } };
 }

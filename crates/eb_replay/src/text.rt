@@ -1,7 +1,7 @@
 //! The text of a replay.
 ghost use Rattle.std.specs.Prelude.{◌≡◌, ◌≤◌, ◌++◌, length};
 ghost use Rattle.eb_io.specs.Writing.{Wrote};
-ghost use Rattle.eb_replay.specs.Text.{first_unclean, port_head, port_line, port_lines, replay_text};
+ghost use Rattle.eb_replay.specs.Text.{first_unclean, port_head, reply_line, reply_lines, replay_text};
 
 use crate::digits::write_reply;
 use crate::ends::end_text;
@@ -22,14 +22,14 @@ fn port_head(number: u64, ending: Ending) -> Line<128>
 }
 
 fn write_port<K: Sink>(number: u64, port: &ReplayedPort, sink: &mut K) -> Result<(), WriteFault>
-    ensures wrote { Wrote K.writing K.beside_writes sink.old sink.new (port_line number port.now) result }
+    ensures wrote { Wrote K.writing K.beside_writes sink.old sink.new (reply_line number port.now) result }
 {
     put_all(sink, port_head(number, port.ending).as_slice())?;
     write_reply(&port.reply, sink)
 }
 
 fn write_ports<K: Sink>(ports: &[ReplayedPort], sink: &mut K) -> Result<(), WriteFault>
-    ensures wrote { Wrote K.writing K.beside_writes sink.old sink.new (port_lines 0 ports.now) result }
+    ensures wrote { Wrote K.writing K.beside_writes sink.old sink.new (reply_lines 0 ports.now) result }
 {
     let mut number = 0;
     for port in ports {

@@ -23,7 +23,7 @@ use Rattle.eb_server.specs.declared.ending.Ending.TheVariants as ending
 use Rattle.eb_server.proofs.EndingLemmas.{ends_so, only_ending}
 use Rattle.soc_desc.specs.Described.{described}
 use Rattle.soc_desc.specs.declared.description.Description.{Description}
-use Rattle.eb_replay.specs.Ports.{PortState, HasReplayed, ServedFile, but_given}
+use Rattle.eb_replay.specs.Ports.{PortOutcome, HasReplayed, ServedFile, but_given}
 use Rattle.eb_replay.specs.Replay.{ReplayState, Replays, replay_slave}
 use Rattle.eb_replay.specs.Text.{replay_text, first_unclean, unclean_or}
 use Rattle.eb_text.specs.Command.{Command, AnswerRam, Answer, Sim, Build, Tour, Load, Replay, Show, IsCommand}
@@ -49,7 +49,7 @@ not_as ending.WriteFault rest bad unlike none is = unlike is
 not_as ending.TooLong rest bad unlike none is = unlike is
 not_as ending.NoMemory rest bad unlike none is = unlike is
 
-none_so : (ports : List PortState) (bad : Ending) → (ending.Clean ≢ bad) → ((i : ℕ) (p : PortState) → i < length ports → (slice_index_or ports i p).ending ≢ bad) → first_unclean ports ≢ bad
+none_so : (ports : List PortOutcome) (bad : Ending) → (ending.Clean ≢ bad) → ((i : ℕ) (p : PortOutcome) → i < length ports → (slice_index_or ports i p).ending ≢ bad) → first_unclean ports ≢ bad
 none_so [] bad unclean none = unclean
 none_so (p ∷ ports) bad unclean none =
     not_as p.ending (first_unclean ports) bad (none 0 p (omega arith)) (none_so ports bad unclean (λ i d lt. none (suc i) d (omega (arith, lt))))
@@ -131,7 +131,7 @@ all_mine m [] all = λ k d lt. absurd (omega (arith, lt))
 all_mine m (e ∷ entries) all = All-cons (λ (x : Entry). x.master ≡ m) e entries all.0 (all_mine m entries all.1)
 
 -- a capture that was replayed ended as its octets end, or memory was wanting
-port_end : (s : Slave) (m : ℕ) (journal : List Entry) (file file' : Reading) (port : PortState) (whole : List ℕ) → ServedFile s file file' (own m journal) port → file.faults ≡ 0
+port_end : (s : Slave) (m : ℕ) (journal : List Entry) (file file' : Reading) (port : PortOutcome) (whole : List ℕ) → ServedFile s file file' (own m journal) port → file.faults ≡ 0
     → (Rose 0 file'.faults → ⊥) → HoldsOctets file' whole → EndsAs (sets_of s.bus) whole port.ending ⊎ (port.ending ≡ ending.NoMemory)
 port_end s m journal file file' port whole served fresh fine holds =
     let entries = own m journal in
@@ -177,11 +177,11 @@ none_of : (e rest : Ending) → e ≡ ending.NoMemory → unclean_or e rest ≡ 
 none_of e rest is = ap (λ (x : Ending). unclean_or x rest) is
 
 -- each ended as its octets end, or memory was wanting
-abbrev EachEnds : {F : Type 0} → (F → Reading) → List F → List PortState → Type 0
-EachEnds {F} reading files ports = (i : ℕ) (f : F) (p : PortState) → i < length ports → (whole : List ℕ) → HoldsOctets (reading (slice_index_or files i f)) whole
+abbrev EachEnds : {F : Type 0} → (F → Reading) → List F → List PortOutcome → Type 0
+EachEnds {F} reading files ports = (i : ℕ) (f : F) (p : PortOutcome) → i < length ports → (whole : List ℕ) → HoldsOctets (reading (slice_index_or files i f)) whole
     → EndsAs (sets_of W32) whole (slice_index_or ports i p).ending ⊎ ((slice_index_or ports i p).ending ≡ ending.NoMemory)
 
-all_end : {F : Type 0} (reading : F → Reading) (files : List F) (held : List (List ℕ)) (ports : List PortState) → length ports ≡ length files → AllHold reading files held → EachEnds reading files ports
+all_end : {F : Type 0} (reading : F → Reading) (files : List F) (held : List (List ℕ)) (ports : List PortOutcome) → length ports ≡ length files → AllHold reading files held → EachEnds reading files ports
     → (first_unclean ports ≡ ending.NoMemory) ⊎ FirstEndsAs held (first_unclean ports)
 all_end reading [] [] [] as_many hold each = inr refl
 all_end reading [] [] (p ∷ ports) as_many hold each = absurd (omega (arith, as_many))

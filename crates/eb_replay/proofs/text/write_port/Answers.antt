@@ -2,25 +2,25 @@ use Rattle.std.proofs.Common.{◌≡◌, ℕ, List, [], ◌∷◌, ◌++◌, sym
 use Rattle.eb_io.specs.Text.{line}
 use Rattle.eb_io.proofs.WritingLemmas.{wrong_first, wrote_both}
 use Rattle.eb_replay.specs.Digits.{reply_text}
-use Rattle.eb_replay.specs.Ports.{PortState}
-use Rattle.eb_replay.specs.Text.{port_head, port_line}
+use Rattle.eb_replay.specs.Ports.{PortOutcome}
+use Rattle.eb_replay.specs.Text.{port_head, reply_line}
 use Rattle.eb_replay.proofs.text.write_port.Goals as goal
 
 pub returns-in_err-put_all : goal.returns-in_err-put_all
 returns-in_err-put_all g c =
-    let port : PortState = c.args.port.now in
-    let head : c.as_slice.result.now ≡ port_head c.args.number port.ending = c.as_slice.ensures.octets ∙ c.port_head.ensures.value ∙ ap (λ (p : PortState). port_head c.args.number p.ending) c.port.view_is in
+    let port : PortOutcome = c.args.port.now in
+    let head : c.as_slice.result.now ≡ port_head c.args.number port.ending = c.as_slice.ensures.octets ∙ c.port_head.ensures.value ∙ ap (λ (p : PortOutcome). port_head c.args.number p.ending) c.port.view_is in
     record {
-      wrote = wrong_first g.K.Sink.writing g.K.Sink.beside_writes _ _ (port_line c.args.number port) c.as_slice.result.now (line (reply_text port.reply)) _ _ c.from_residual.ensures.0
+      wrote = wrong_first g.K.Sink.writing g.K.Sink.beside_writes _ _ (reply_line c.args.number port) c.as_slice.result.now (line (reply_text port.reply)) _ _ c.from_residual.ensures.0
           (ap (λ (l : List ℕ). l ++ line (reply_text port.reply)) head ∙ sym (append_assoc (port_head c.args.number port.ending) (reply_text port.reply) (10 ∷ []))) c.in_err-put_all.ensures.wrote;
     }
 
 pub returns : goal.returns
 returns g c =
-    let port : PortState = c.args.port.now in
-    let head : c.as_slice.result.now ≡ port_head c.args.number port.ending = c.as_slice.ensures.octets ∙ c.port_head.ensures.value ∙ ap (λ (p : PortState). port_head c.args.number p.ending) c.port.view_is in
-    let reply : line (reply_text c.deref.result.now) ≡ line (reply_text port.reply) = ap (λ (l : List ℕ). line (reply_text l)) c.deref.ensures.value ∙ ap (λ (p : PortState). line (reply_text p.reply)) c.port.view_is in
+    let port : PortOutcome = c.args.port.now in
+    let head : c.as_slice.result.now ≡ port_head c.args.number port.ending = c.as_slice.ensures.octets ∙ c.port_head.ensures.value ∙ ap (λ (p : PortOutcome). port_head c.args.number p.ending) c.port.view_is in
+    let reply : line (reply_text c.deref.result.now) ≡ line (reply_text port.reply) = ap (λ (l : List ℕ). line (reply_text l)) c.deref.ensures.value ∙ ap (λ (p : PortOutcome). line (reply_text p.reply)) c.port.view_is in
     record {
-      wrote = wrote_both g.K.Sink.writing g.K.Sink.beside_writes _ _ _ (port_line c.args.number port) c.as_slice.result.now (line (reply_text c.deref.result.now)) _
+      wrote = wrote_both g.K.Sink.writing g.K.Sink.beside_writes _ _ _ (reply_line c.args.number port) c.as_slice.result.now (line (reply_text c.deref.result.now)) _
           ((λ i. head i ++ reply i) ∙ sym (append_assoc (port_head c.args.number port.ending) (reply_text port.reply) (10 ∷ []))) c.in_ok-put_all.ensures.wrote c.write_reply.ensures.wrote;
     }
