@@ -6,4 +6,3 @@ pub mod Scripted
 pub mod OwnRuns
 pub mod OwnScript
 pub mod RunEnds
-pub mod ScriptExamples
