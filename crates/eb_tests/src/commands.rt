@@ -2,7 +2,7 @@ ghost use Rattle.std.specs.Prelude.{◌<◌, IfOk};
 ghost use Rattle.eb_io.specs.MemSource.{IsNew};
 
 use eb_io::{MemSink, MemSource, MemWorld};
-use eb_run::{Status, run_plain};
+use eb_run::{Family, Status, family_of, run_plain};
 use eb_samples::{CAPTURE, REPLY, SOC};
 use std::alloc::{AllocError, Global};
 use std::process::Abort;
@@ -70,6 +70,20 @@ fn world_of_two(alloc: Global, first: MemSource, second: MemSource) -> Result<Me
     Ok(MemWorld::new(alloc, files))
 }
 
+// Runs words of a command that waits for nobody.
+fn run_alone(
+    alloc: Global,
+    words: &[String],
+    world: &mut MemWorld,
+    out: &mut MemSink,
+    err: &mut MemSink,
+) -> Status {
+    match family_of(words) {
+        Family::Plain => run_plain(alloc, words, world, out, err),
+        Family::Client | Family::Shared => Status::USAGE,
+    }
+}
+
 // Runs words over a world and an output that fails the writes `write_fails`, and compares status, output and error.
 fn expect<R: Abort>(
     rt: &R,
@@ -83,7 +97,7 @@ fn expect<R: Abort>(
     let words = words_of(alloc, words)?;
     let mut out = MemSink::new(alloc, 4096, 3, Vec::from_slice(alloc, write_fails)?)?;
     let mut err = MemSink::new(alloc, 4096, 3, Vec::new(alloc))?;
-    let got = run_plain(alloc, &words, &mut world, &mut out, &mut err);
+    let got = run_alone(alloc, &words, &mut world, &mut out, &mut err);
     assert_eq!(rt; got, Status(status));
     assert_eq!(rt; out.octets(), output);
     assert_eq!(rt; err.octets(), line.as_bytes());
@@ -146,7 +160,7 @@ fn tables_are_shown(rt: HostRuntime) -> Result<(), Fail> {
     let words = words_of(alloc, &["build", "soc"])?;
     let mut out = MemSink::new(alloc, 4096, 64, Vec::new(alloc))?;
     let mut err = MemSink::new(alloc, 16, 16, Vec::new(alloc))?;
-    let got = run_plain(alloc, &words, &mut world, &mut out, &mut err);
+    let got = run_alone(alloc, &words, &mut world, &mut out, &mut err);
     assert_eq!(rt; got, Status::OK);
     assert!(rt; out.octets().starts_with(SOC_TABLES.as_bytes()));
     Ok(())
