@@ -1,6 +1,7 @@
 pub mod Counts
 pub mod Reading
 pub mod Writing
+pub mod Page
 pub mod Outside
 pub mod Plan
 pub mod Calls

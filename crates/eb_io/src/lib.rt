@@ -9,6 +9,7 @@
 //! - `count`: a sink that counts
 //! - `line`: a line of text, with numbers in decimal and hexadecimal digits
 //! - `link`: the trait `Link`, a link in memory
+//! - `page`: texts that are gathered before they are written
 //! - `world`: the trait `World`, a world in memory
 //! - `adapters`: readers and writers of std, and the real files
 //! - `shelf`: what a world keeps
@@ -20,6 +21,7 @@ mod calls;
 mod count;
 mod line;
 mod link;
+mod page;
 mod shelf;
 mod sink;
 mod source;
@@ -29,6 +31,7 @@ pub use adapters::{ReadSource, RealWorld, WriteSink};
 pub use count::CountSink;
 pub use line::Line;
 pub use link::{Link, MemLink};
+pub use page::Page;
 pub use sink::{MemSink, Put, Sink, WriteFault, put_all, put_each};
 pub use source::{Gathered, Got, MemSource, Source, gather};
 pub use world::{MemWorld, Opened, World};
