@@ -2,12 +2,13 @@
 ghost use Rattle.std.specs.Prelude.{◌≡◌, ◌≤◌, ◌++◌, codes, length};
 ghost use Rattle.eb_io.specs.Text.{digits_16};
 ghost use Rattle.eb_io.specs.Writing.{Wrote};
+ghost use Rattle.eb_io.specs.Page.{Paged};
 ghost use Rattle.soc_journal.specs.Text.{answer_text, cycle_line, entries_text, entry_text, journal_text, pair_line, pair_lines, read_text, request_text, write_text};
 
 use crate::entry::Entry;
 use crate::journal::Journal;
 use crate::pair::Pair;
-use eb_io::{Line, Sink, WriteFault, put_all};
+use eb_io::{Line, Page, Sink, WriteFault};
 use wb_signals::{Answer, Op};
 
 fn write_text(op: &Op) -> Line<64>
@@ -94,29 +95,38 @@ fn cycle_line(master: u8, cut: bool) -> Line<64>
     line
 }
 
-fn write_pairs<S: Sink>(pairs: &[Pair], sink: &mut S) -> Result<(), WriteFault>
-    ensures wrote { Wrote S.writing S.beside_writes sink.old sink.new (pair_lines pairs.now) result }
+fn put_pairs<S: Sink>(pairs: &[Pair], page: &mut Page, sink: &mut S) -> Result<(), WriteFault>
+    ensures paged { Paged S.writing S.beside_writes sink.old sink.new page.old page.new (pair_lines pairs.now) result }
 {
     for pair in pairs {
-        put_all(sink, pair_line(pair).as_slice())?;
+        page.put(pair_line(pair).as_slice(), sink)?;
     }
     Ok(())
 }
 
-fn write_entry<S: Sink>(entry: &Entry, sink: &mut S) -> Result<(), WriteFault>
-    ensures wrote { Wrote S.writing S.beside_writes sink.old sink.new (entry_text entry.now) result }
+fn put_entry<S: Sink>(entry: &Entry, page: &mut Page, sink: &mut S) -> Result<(), WriteFault>
+    ensures paged { Paged S.writing S.beside_writes sink.old sink.new page.old page.new (entry_text entry.now) result }
 {
-    put_all(sink, cycle_line(entry.master, entry.cut).as_slice())?;
-    write_pairs(entry.pairs.as_slice(), sink)
+    page.put(cycle_line(entry.master, entry.cut).as_slice(), sink)?;
+    put_pairs(entry.pairs.as_slice(), page, sink)
 }
 
-fn write_entries<S: Sink>(entries: &[Entry], sink: &mut S) -> Result<(), WriteFault>
-    ensures wrote { Wrote S.writing S.beside_writes sink.old sink.new (entries_text entries.now) result }
+fn put_entries<S: Sink>(entries: &[Entry], page: &mut Page, sink: &mut S) -> Result<(), WriteFault>
+    ensures paged { Paged S.writing S.beside_writes sink.old sink.new page.old page.new
+        (entries_text entries.now) result }
 {
     for entry in entries {
-        write_entry(entry, sink)?;
+        put_entry(entry, page, sink)?;
     }
     Ok(())
+}
+
+fn put_journal<S: Sink>(entries: &[Entry], page: &mut Page, sink: &mut S) -> Result<(), WriteFault>
+    ensures paged { Paged S.writing S.beside_writes sink.old sink.new page.old page.new
+        (journal_text entries.now) result }
+{
+    page.put(b"journal\n", sink)?;
+    put_entries(entries, page, sink)
 }
 
 impl Journal {
@@ -128,7 +138,8 @@ impl Journal {
     pub fn write<S: Sink>(&self, sink: &mut S) -> Result<(), WriteFault>
         ensures wrote { Wrote S.writing S.beside_writes sink.old sink.new (journal_text self.now.entries) result }
     {
-        put_all(sink, b"journal\n")?;
-        write_entries(self.entries(), sink)
+        let mut page = Page::new();
+        put_journal(self.entries(), &mut page, sink)?;
+        page.flush(sink)
     }
 }
