@@ -1,45 +1,47 @@
--- The text of a list whose items are numbered, on its way to a sink.
+-- The text of a list whose items are numbered, on its way to a page.
 use Rattle.std.proofs.Common.{◌≡◌, ℕ, suc, ◌+◌, ◌<◌, List, [], ◌∷◌, ◌++◌, length, add-one, get_or, drop, Result, Ok, Err, sym, ap, ◌∙◌, subst, append_assoc}
 use Rattle.std.specs.Prelude.{⊤}
 use Rattle.std.specs.Result.{IsErr}
 use Rattle.std.proofs.Math.Seq.{drop-cons, drop-length}
 use Rattle.std.proofs.lemmas.List.{append-nil}
 use Rattle.eb_io.specs.Reading.{Reading}
-use Rattle.eb_io.specs.Writing.{Writing, Wrote}
+use Rattle.eb_io.specs.Writing.{Writing}
+use Rattle.eb_io.specs.Page.{Paged}
 use Rattle.eb_io.specs.declared.sink.WriteFault.{WriteFault}
-use Rattle.eb_io.proofs.WritingLemmas.{Went, went_on, went_wrong, went_all}
+use Rattle.eb_io.proofs.PageLemmas.{Paging, paging_on, paging_wrong, paging_all}
 use Rattle.soc_wave.specs.Text.{holder_text, holder_texts}
 use Rattle.std.specs.Prelude.{Option}
 
 module _ {S : Type 0} (writing : S → Writing) (reading : S → Reading) {X : Type 0} (one : ℕ → X → List ℕ) (text_from : ℕ → List X → List ℕ)
     (none : (n : ℕ) → text_from n [] ≡ []) (cons : (n : ℕ) (x : X) (xs : List X) → text_from n (x ∷ xs) ≡ one n x ++ text_from (suc n) xs) where
   -- the item i is the next part
-  next_numbered : (old mid : S) (text : List ℕ) (xs : List X) (i : ℕ) (x : X) (piece : List ℕ) → i < length xs → x ≡ get_or xs i x → piece ≡ one i x
-      → Went writing reading old mid text (text_from i (drop i xs)) → Went writing reading old mid text (piece ++ text_from (i + 1) (drop (i + 1) xs))
-  next_numbered old mid text xs i x piece lt is same went =
+  next_numbered : (old mid : S) (page held text : List ℕ) (xs : List X) (i : ℕ) (x : X) (piece : List ℕ) → i < length xs → x ≡ get_or xs i x → piece ≡ one i x
+      → Paging writing reading old mid page held text (text_from i (drop i xs)) → Paging writing reading old mid page held text (piece ++ text_from (i + 1) (drop (i + 1) xs))
+  next_numbered old mid page held text xs i x piece lt is same went =
       let ahead : drop i xs ≡ x ∷ drop (suc i) xs = drop-cons xs i x lt ∙ ap (λ (y : X). y ∷ drop (suc i) xs) (sym is) in
       let parts : text_from i (drop i xs) ≡ piece ++ text_from (i + 1) (drop (i + 1) xs) =
       rw add-one (ap (text_from i) ahead ∙ cons i x (drop (suc i) xs) ∙ ap (λ (l : List ℕ). l ++ text_from (suc i) (drop (suc i) xs)) (sym same)) in
-      subst (λ (l : List ℕ). Went writing reading old mid text l) parts went
+      subst (λ (l : List ℕ). Paging writing reading old mid page held text l) parts went
 
-  pub went_numbered : (old mid new : S) (text : List ℕ) (xs : List X) (i : ℕ) (x : X) (piece : List ℕ) → i < length xs → x ≡ get_or xs i x → piece ≡ one i x
-      → Went writing reading old mid text (text_from i (drop i xs)) → Wrote writing reading mid new piece (Ok tt)
-      → Went writing reading old new text (text_from (i + 1) (drop (i + 1) xs))
-  went_numbered old mid new text xs i x piece lt is same went wrote =
-      went_on writing reading old mid new text piece (text_from (i + 1) (drop (i + 1) xs)) (next_numbered old mid text xs i x piece lt is same went) wrote
+  pub paging_numbered : (old mid new : S) (page held next text : List ℕ) (xs : List X) (i : ℕ) (x : X) (piece : List ℕ) → i < length xs → x ≡ get_or xs i x → piece ≡ one i x
+      → Paging writing reading old mid page held text (text_from i (drop i xs)) → Paged writing reading mid new held next piece (Ok tt)
+      → Paging writing reading old new page next text (text_from (i + 1) (drop (i + 1) xs))
+  paging_numbered old mid new page held next text xs i x piece lt is same went paged =
+      paging_on writing reading old mid new page held next text piece (text_from (i + 1) (drop (i + 1) xs)) (next_numbered old mid page held text xs i x piece lt is same went) paged
 
-  pub wrong_numbered : (old mid new : S) (text : List ℕ) (xs : List X) (i : ℕ) (x : X) (piece : List ℕ) (fault : WriteFault) (result : Result ⊤ WriteFault) → IsErr result
-      → i < length xs → x ≡ get_or xs i x → piece ≡ one i x → Went writing reading old mid text (text_from i (drop i xs))
-      → Wrote writing reading mid new piece (Err fault) → Wrote writing reading old new text result
-  wrong_numbered old mid new text xs i x piece fault result failed lt is same went wrote =
-      went_wrong writing reading old mid new text piece (text_from (i + 1) (drop (i + 1) xs)) fault result failed (next_numbered old mid text xs i x piece lt is same went) wrote
+  pub wrong_paging_numbered : (old mid new : S) (page held next text : List ℕ) (xs : List X) (i : ℕ) (x : X) (piece : List ℕ) (fault : WriteFault) (result : Result ⊤ WriteFault) → IsErr result
+      → i < length xs → x ≡ get_or xs i x → piece ≡ one i x → Paging writing reading old mid page held text (text_from i (drop i xs))
+      → Paged writing reading mid new held next piece (Err fault) → Paged writing reading old new page next text result
+  wrong_paging_numbered old mid new page held next text xs i x piece fault result failed lt is same went paged =
+      paging_wrong writing reading old mid new page held next text piece (text_from (i + 1) (drop (i + 1) xs)) fault result failed
+      (next_numbered old mid page held text xs i x piece lt is same went) paged
 
   -- no item is left
-  pub all_numbered : (old new : S) (text : List ℕ) (xs : List X) (n : ℕ) → n ≡ length xs → Went writing reading old new text (text_from n (drop n xs))
-      → Wrote writing reading old new text (Ok tt)
-  all_numbered old new text xs n is went =
+  pub all_numbered : (old new : S) (page held text : List ℕ) (xs : List X) (n : ℕ) → n ≡ length xs → Paging writing reading old new page held text (text_from n (drop n xs))
+      → Paged writing reading old new page held text (Ok tt)
+  all_numbered old new page held text xs n is went =
       let ends : text_from n (drop n xs) ≡ [] = ap (λ (k : ℕ). text_from n (drop k xs)) is ∙ ap (text_from n) (drop-length xs) ∙ none n in
-      went_all writing reading old new text (text_from n (drop n xs)) ends went
+      paging_all writing reading old new page held text (text_from n (drop n xs)) ends went
 
 -- ---- holders, one behind the other
 

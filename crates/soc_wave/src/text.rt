@@ -1,11 +1,12 @@
 //! The text of a wave, line by line.
 ghost use Rattle.std.specs.Prelude.{◌≡◌, ◌≤◌, ◌++◌, ◌+◌, ◌*◌, codes, decimal, length, take};
 ghost use Rattle.eb_io.specs.Writing.{Wrote};
+ghost use Rattle.eb_io.specs.Page.{Paged};
 ghost use Rattle.soc_wave.specs.Text.{bit_text, word_text, holder_line, holder_text, holder_texts, port_line, port_lines, row_text, rows_text, wave_text};
 
 use crate::view::RowView;
 use crate::wave::Wave;
-use eb_io::{Line, Sink, WriteFault, put_all};
+use eb_io::{Line, Page, Sink, WriteFault};
 use wb_signals::PortRow;
 
 fn bit_text(bit: bool) -> &'static [u8]
@@ -85,30 +86,51 @@ fn holder_line(clock: usize, holders: &[Option<u8>]) -> Line<4096>
     line
 }
 
-fn write_ports<S: Sink>(clock: usize, ports: &[PortRow], sink: &mut S) -> Result<(), WriteFault>
-    ensures wrote { Wrote S.writing S.beside_writes sink.old sink.new (port_lines clock 0 ports.now) result }
+fn put_ports<S: Sink>(
+    clock: usize,
+    ports: &[PortRow],
+    page: &mut Page,
+    sink: &mut S,
+) -> Result<(), WriteFault>
+    ensures paged { Paged S.writing S.beside_writes sink.old sink.new page.old page.new
+        (port_lines clock 0 ports.now) result }
 {
     for m in 0..ports.len() {
-        put_all(sink, port_line(clock, m, &ports[m]).as_slice())?;
+        page.put(port_line(clock, m, &ports[m]).as_slice(), sink)?;
     }
     Ok(())
 }
 
-fn write_row<S: Sink>(clock: usize, row: &RowView<'_>, sink: &mut S) -> Result<(), WriteFault>
+fn put_row<S: Sink>(
+    clock: usize,
+    row: &RowView<'_>,
+    page: &mut Page,
+    sink: &mut S,
+) -> Result<(), WriteFault>
     requires few { length row.now.holders ≤ 128 }
-    ensures wrote { Wrote S.writing S.beside_writes sink.old sink.new (row_text clock row.now) result }
+    ensures paged { Paged S.writing S.beside_writes sink.old sink.new page.old page.new
+        (row_text clock row.now) result }
 {
-    write_ports(clock, row.ports(), sink)?;
-    put_all(sink, holder_line(clock, row.holders()).as_slice())
+    put_ports(clock, row.ports(), page, sink)?;
+    page.put(holder_line(clock, row.holders()).as_slice(), sink)
 }
 
-fn write_rows<S: Sink>(wave: &Wave, sink: &mut S) -> Result<(), WriteFault>
-    ensures wrote { Wrote S.writing S.beside_writes sink.old sink.new (rows_text 0 wave.now.rows) result }
+fn put_rows<S: Sink>(wave: &Wave, page: &mut Page, sink: &mut S) -> Result<(), WriteFault>
+    ensures paged { Paged S.writing S.beside_writes sink.old sink.new page.old page.new
+        (rows_text 0 wave.now.rows) result }
 {
     for clock in 0..wave.len() {
-        write_row(clock, &wave.get(clock), sink)?;
+        put_row(clock, &wave.get(clock), page, sink)?;
     }
     Ok(())
+}
+
+fn put_wave<S: Sink>(wave: &Wave, page: &mut Page, sink: &mut S) -> Result<(), WriteFault>
+    ensures paged { Paged S.writing S.beside_writes sink.old sink.new page.old page.new
+        (wave_text wave.now.rows) result }
+{
+    page.put(b"wave\n", sink)?;
+    put_rows(wave, page, sink)
 }
 
 impl Wave {
@@ -120,7 +142,8 @@ impl Wave {
     pub fn write<S: Sink>(&self, sink: &mut S) -> Result<(), WriteFault>
         ensures wrote { Wrote S.writing S.beside_writes sink.old sink.new (wave_text self.now.rows) result }
     {
-        put_all(sink, b"wave\n")?;
-        write_rows(self, sink)
+        let mut page = Page::new();
+        put_wave(self, &mut page, sink)?;
+        page.flush(sink)
     }
 }

@@ -1,8 +1,0 @@
-use Rattle.std.proofs.Common.{drop}
-use Rattle.eb_io.proofs.WritingLemmas.{Went}
-use Rattle.soc_wave.specs.Text.{port_lines}
-use Rattle.soc_wave.proofs.text.write_ports.Given as goal
-
-abbrev pub invariant-loop-m : goal.invariant-loop-m
-invariant-loop-m g l =
-    Went g.S.Sink.writing g.S.Sink.beside_writes l.initial.sink l.sink (port_lines l.clock 0 l.ports) (port_lines l.clock l.m (drop l.m l.ports))
