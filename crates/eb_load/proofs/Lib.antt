@@ -3,3 +3,4 @@ pub mod PieceLemmas
 pub mod DrawLemmas
 pub mod SpellingLemmas
 pub mod SummaryLemmas
+pub mod FillLemmas

@@ -1,6 +1,7 @@
 // The generated stream as a source.
-ghost use Rattle.std.specs.Prelude.{Some, IfSome, [], ◌≡◌, ◌≢◌, ◌<◌, ◌≤◌, ◌^◌, ◌++◌, length, take, drop};
+ghost use Rattle.std.specs.Prelude.{IsTrue, Some, IfSome, [], ◌≡◌, ◌≢◌, ◌<◌, ◌≤◌, ◌^◌, ◌++◌, length, take, drop};
 ghost use Rattle.eb_io.specs.Reading.{Reads};
+ghost use Rattle.eb_load.specs.Filling.{Filled};
 ghost use Rattle.eb_load.specs.Stream.{load_octets, octets_of_records};
 
 use crate::draws::Draws;
@@ -60,6 +61,7 @@ impl LoadSource {
         ensures left { load_left self.new ≡ load_left self.old }
         ensures given { load_given self.new ≡ load_given self.old }
         ensures some { self.new.at < length self.new.piece }
+        ensures fewer { self.new.records < self.old.records }
     {
         self.piece = next_record(&mut self.draws);
         self.records -= 1;
@@ -74,6 +76,9 @@ impl LoadSource {
         ensures room { result ≤ length room.new }
         ensures octets { load_left self.old ≡ take result room.new ++ load_left self.new }
         ensures given { load_given self.new ≡ load_given self.old ++ take result room.new }
+        ensures whole { result < length room.new → self.new.at ≡ length self.new.piece }
+        ensures len { length room.new ≡ length room.old }
+        ensures records { self.new.records ≡ self.old.records }
     {
         let at = self.at;
         let count = room.len().min(self.piece.len() - at);
@@ -82,6 +87,29 @@ impl LoadSource {
         self.given += count as u64;
         count
     }
+
+    // Whether a room of which so much is filled takes octets of one more record.
+    fn has_more(&self, filled: usize, room: usize) -> bool
+        ensures room { IsTrue result → filled < room }
+        ensures records { IsTrue result → 0 < self.now.records }
+    {
+        filled < room && self.records > 0
+    }
+
+    // Fills what is left of a room, which the octets of the piece don't fill, with those of the records to come. How
+    // much is filled then.
+    fn fill(&mut self, room: &mut [u8], count: usize) -> usize
+        requires within { count ≤ length room.old }
+        requires whole { count < length room.old → self.old.at ≡ length self.old.piece }
+        ensures gave { Filled (load_reading self.old) (load_reading self.new) count room.old room.new result }
+    {
+        let mut filled = count;
+        while self.has_more(filled, room.len()) {
+            self.advance();
+            filled += self.give(&mut room[filled..]);
+        }
+        filled
+    }
 }
 
 impl Source for LoadSource {
@@ -89,7 +117,7 @@ impl Source for LoadSource {
 
     ghost reading = { load_reading };
 
-    /// Gives as many octets as the room takes of the header or of one record. It never answers `Failed`.
+    /// Gives as many octets as the room takes and the stream has left. It never answers `Failed`.
     fn read(&mut self, room: &mut [u8]) -> Got
         requires some_room { 0 < length room.old }
         ensures reads { Reads (load_reading self.old) (load_reading self.new) room.new result }
@@ -101,6 +129,7 @@ impl Source for LoadSource {
             }
             self.advance();
         }
-        Got::Some(self.give(room))
+        let count = self.give(room);
+        Got::Some(self.fill(room, count))
     }
 }
