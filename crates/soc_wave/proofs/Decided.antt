@@ -1,4 +1,4 @@
--- The clauses of a legal wave as tests, so that worked waves are computed.
+-- The tests of a legal wave's clauses are sound, so that worked waves are computed.
 use Rattle.std.proofs.Common.{◌≡◌, ◌≢◌, ℕ, zero, suc, ◌<◌, ◌==◌, ◌&&◌, not, nat_lt, Bool, true, false, List, [], ◌∷◌, ◌++◌, length, inl, inr, Option, Some, None, refl, sym, ap, ◌∙◌, subst, arith}
 use Rattle.std.specs.List.{list_any}
 use Rattle.std.proofs.lemmas.Bool.{cases_eq, eqb-true, ltb-true}
@@ -10,13 +10,10 @@ use Rattle.soc_core.specs.Fabric.{Fabric}
 use Rattle.soc_wave.specs.Rows.{port_in, holder_in, column, last_port, last_row, has_passed, is_held_up, has_answer}
 use Rattle.soc_wave.specs.Requests.{passed_in, waiting_in, waiting_count, answer_clock, queue_of, stalled_by}
 use Rattle.soc_wave.specs.Legal.{InEachClock, OnEachPort, HasPlainFields, IsAnswered, IsWithinDepth, IsStalledAsDue, IsKept, HoldsSlaves, IsWholeRow}
+use Rattle.soc_wave.specs.Tests.{implies, agree, same_request, all_below, each_passes, ports_pass, is_whole, quiet, is_plain, answers_due, depth_kept, stalls_due, keeps, is_number, slave_held, slave_reached, holds_slaves}
 use Rattle.soc_wave.proofs.PortRows.{false_true}
 
--- ---- tests
-
-abbrev pub implies : Bool → Bool → Bool
-implies true b = b
-implies false b = true
+-- ---- words
 
 pub implied : (a b : Bool) → implies a b ≡ true → a ≡ true → b ≡ true
 implied true b h is = h
@@ -30,19 +27,12 @@ pub not_true : (b : Bool) → not b ≡ true → b ≡ false
 not_true true h = absurd (false_true h)
 not_true false h = refl
 
-abbrev pub agree : Bool → Bool → Bool
-agree true b = b
-agree false b = not b
-
 pub agreed : (a b : Bool) → agree a b ≡ true → a ≡ b
 agreed true b h = sym h
 agreed false b h = sym (not_true b h)
 
 not_zero : (n : ℕ) → n ≢ 0 → not (n == 0) ≡ true
 not_zero n other = let e : (n == 0) ≡ false = grind arith in ap not e
-
-abbrev pub same_request : Request → Request → Bool
-same_request a b = agree a.write b.write && (a.adr == b.adr && (a.dat == b.dat && a.sel == b.sel))
 
 pub requests_same : (a b : Request) → same_request a b ≡ true → a ≡ b
 requests_same a b h =
@@ -57,10 +47,6 @@ requests_same a b h =
 
 -- ---- in each clock, and below a number
 
-abbrev pub all_below : (ℕ → Bool) → ℕ → Bool
-all_below test zero = true
-all_below test (suc n) = test n && all_below test n
-
 pub below_hold : (P : ℕ → Type 0) (test : ℕ → Bool) → ((m : ℕ) → test m ≡ true → P m) → (n : ℕ) → all_below test n ≡ true → (m : ℕ) → m < n → P m
 below_hold P test sound zero h m lt = absurd (omega (arith, lt))
 below_hold P test sound (suc n) h m lt =
@@ -69,10 +55,6 @@ below_hold P test sound (suc n) h m lt =
       | inl last ↦ subst P (sym last) (sound n parts.0)
       | inr other ↦ below_hold P test sound n parts.1 m (omega (arith, lt, other))
     ]
-
-abbrev pub each_passes : (List WaveRowState → WaveRowState → Bool) → List WaveRowState → List WaveRowState → Bool
-each_passes test before [] = true
-each_passes test before (row ∷ rows) = test before row && each_passes test (before ++ row ∷ []) rows
 
 pub each_clock : (P : List WaveRowState → WaveRowState → Type 0) (test : List WaveRowState → WaveRowState → Bool)
     → ((before : List WaveRowState) (row : WaveRowState) → test before row ≡ true → P before row)
@@ -93,19 +75,10 @@ each_port f P test sound rows h =
 
 -- ---- the clauses
 
-abbrev pub is_whole : Fabric → WaveRowState → Bool
-is_whole f row = (length row.ports == f.ports) && (length row.holders == f.slaves)
-
 pub whole_row : (f : Fabric) (row : WaveRowState) → is_whole f row ≡ true → IsWholeRow f row
 whole_row f row h =
     let parts = both (length row.ports == f.ports) (length row.holders == f.slaves) h in
     record { ports = eqb-true _ _ parts.0; holders = eqb-true _ _ parts.1 }
-
-abbrev pub quiet : PortRow → Bool
-quiet p = not p.we && (p.adr == 0 && (p.dat == 0 && (p.sel == 0 && not p.stall)))
-
-abbrev pub is_plain : PortRow → Bool
-is_plain p = implies p.stb p.cyc && (implies (not p.stb) (quiet p) && implies (not p.ack) (p.read == 0))
 
 pub plain_fields_by : (p : PortRow) → is_plain p ≡ true → HasPlainFields p
 plain_fields_by p h =
@@ -125,11 +98,6 @@ plain_fields_by p h =
       read = λ s. eqb-true p.read 0 (implied (not p.ack) (p.read == 0) two.1 (ap not s));
     }
 
-abbrev pub answers_due : Fabric → List PortRow → PortRow → Bool
-answers_due f before p =
-    agree (has_answer p) (list_any (λ r. answer_clock f r == length before) (passed_in before))
-    && (implies p.ack (not p.err && not p.rty) && implies p.err (not p.rty))
-
 pub answered_by : (f : Fabric) (before : List PortRow) (p : PortRow) → answers_due f before p ≡ true → IsAnswered f before p
 answered_by f before p h =
     let one = both (agree (has_answer p) (list_any (λ r. answer_clock f r == length before) (passed_in before))) (implies p.ack (not p.err && not p.rty) && implies p.err (not p.rty)) h in
@@ -142,10 +110,7 @@ answered_by f before p h =
       err_alone = λ s. not_true p.rty (implied p.err (not p.rty) two.1 s);
     }
 
-abbrev pub within : Fabric → List PortRow → PortRow → Bool
-within f before p = implies p.stb (nat_lt (waiting_count before) f.depth) && implies (not (waiting_count before == 0)) p.cyc
-
-pub within_by : (f : Fabric) (before : List PortRow) (p : PortRow) → within f before p ≡ true → IsWithinDepth f before p
+pub within_by : (f : Fabric) (before : List PortRow) (p : PortRow) → depth_kept f before p ≡ true → IsWithinDepth f before p
 within_by f before p h =
     let parts = both (implies p.stb (nat_lt (waiting_count before) f.depth)) (implies (not (waiting_count before == 0)) p.cyc) h in
     record {
@@ -153,14 +118,8 @@ within_by f before p h =
       stands = λ some. implied (not (waiting_count before == 0)) p.cyc parts.1 (not_zero (waiting_count before) some);
     }
 
-abbrev pub stalls_due : Fabric → List PortRow → PortRow → Bool
-stalls_due f before p = agree p.stall (p.stb && stalled_by f (length before) (queue_of f (request_in p)) (waiting_in f before))
-
 pub stalled_as_due : (f : Fabric) (before : List PortRow) (p : PortRow) → stalls_due f before p ≡ true → IsStalledAsDue f before p
 stalled_as_due f before p h = agreed p.stall (p.stb && stalled_by f (length before) (queue_of f (request_in p)) (waiting_in f before)) h
-
-abbrev pub keeps : PortRow → PortRow → Bool
-keeps old p = implies (is_held_up old) (p.cyc && (p.stb && same_request (request_in p) (request_in old)))
 
 pub kept_by : (old p : PortRow) → keeps old p ≡ true → IsKept old p
 kept_by old p h s =
@@ -168,26 +127,17 @@ kept_by old p h s =
     let two = both p.stb (same_request (request_in p) (request_in old)) one.1 in
     (one.0, two.0, requests_same (request_in p) (request_in old) two.1)
 
-abbrev pub is_number : ℕ → Option ℕ → Bool
-is_number m None = false
-is_number m (Some x) = x == m
-
 number_is : (m : ℕ) (o : Option ℕ) → is_number m o ≡ true → o ≡ Some m
 number_is m None h = absurd (false_true h)
 number_is m (Some x) h = ap (λ (n : ℕ). Some n) (eqb-true x m h)
 
-itself : (m : ℕ) → (m == m) ≡ true
+pub itself : (m : ℕ) → (m == m) ≡ true
 itself m = grind arith
 
 is_that : (m : ℕ) (o : Option ℕ) → o ≡ Some m → is_number m o ≡ true
 is_that m o is = ap (is_number m) is ∙ itself m
 
-abbrev pub slave_held : ℕ → WaveRowState → WaveRowState → ℕ → Bool
-slave_held m old row i =
-    implies (is_number m (holder_in i row)) (port_in m row).cyc
-    && implies (is_number m (holder_in i old) && (port_in m row).cyc) (is_number m (holder_in i row))
-
-join : (a b : Bool) → a ≡ true → b ≡ true → (a && b) ≡ true
+pub join : (a b : Bool) → a ≡ true → b ≡ true → (a && b) ≡ true
 join a b is also = ap (λ x. x && b) is ∙ also
 
 -- one top slave
@@ -206,15 +156,6 @@ one_held m old row i h =
       stays = λ is up. number_is m (holder_in i row) (implied (was && cyc) now parts.1 (join was cyc (is_that m (holder_in i old) is) up));
     }
 
--- the top slave of a request that passed
-abbrev pub slave_reached : ℕ → WaveRowState → Bool → Option ℕ → Bool
-slave_reached m row passed None = true
-slave_reached m row passed (Some i) = implies passed (is_number m (holder_in i row))
-
-abbrev pub holds_slaves : Fabric → WaveRowState → WaveRowState → ℕ → Bool
-holds_slaves f old row m =
-    all_below (slave_held m old row) f.slaves && slave_reached m row (has_passed (port_in m row)) (f.top (request_in (port_in m row)))
-
 pub holds_by : (f : Fabric) (old row : WaveRowState) (m : ℕ) → holds_slaves f old row m ≡ true → HoldsSlaves f m old row
 holds_by f old row m h =
     let passed = has_passed (port_in m row) in
@@ -232,18 +173,14 @@ holds_by f old row m h =
 pub wave_whole : (f : Fabric) (rows : List WaveRowState) → each_passes (λ before row. is_whole f row) [] rows ≡ true → InEachClock (λ before row. IsWholeRow f row) [] rows
 wave_whole f rows h = each_clock (λ before row. IsWholeRow f row) (λ before row. is_whole f row) (λ before row. whole_row f row) [] rows h
 
--- what each port passes in each clock
-abbrev pub ports_pass : Fabric → (List PortRow → PortRow → Bool) → List WaveRowState → Bool
-ports_pass f test rows = each_passes (λ before row. all_below (λ m. test (column m before) (port_in m row)) f.ports) [] rows
-
 pub wave_fields : (f : Fabric) (rows : List WaveRowState) → ports_pass f (λ before p. is_plain p) rows ≡ true → OnEachPort f (λ before p. HasPlainFields p) rows
 wave_fields f rows h = each_port f (λ before p. HasPlainFields p) (λ before p. is_plain p) (λ before p. plain_fields_by p) rows h
 
 pub wave_answers : (f : Fabric) (rows : List WaveRowState) → ports_pass f (answers_due f) rows ≡ true → OnEachPort f (IsAnswered f) rows
 wave_answers f rows h = each_port f (IsAnswered f) (answers_due f) (answered_by f) rows h
 
-pub wave_depth : (f : Fabric) (rows : List WaveRowState) → ports_pass f (within f) rows ≡ true → OnEachPort f (IsWithinDepth f) rows
-wave_depth f rows h = each_port f (IsWithinDepth f) (within f) (within_by f) rows h
+pub wave_depth : (f : Fabric) (rows : List WaveRowState) → ports_pass f (depth_kept f) rows ≡ true → OnEachPort f (IsWithinDepth f) rows
+wave_depth f rows h = each_port f (IsWithinDepth f) (depth_kept f) (within_by f) rows h
 
 pub wave_stalls : (f : Fabric) (rows : List WaveRowState) → ports_pass f (stalls_due f) rows ≡ true → OnEachPort f (IsStalledAsDue f) rows
 wave_stalls f rows h = each_port f (IsStalledAsDue f) (stalls_due f) (stalled_as_due f) rows h

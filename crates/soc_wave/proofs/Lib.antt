@@ -16,5 +16,6 @@ pub mod WaveByNumber
 pub mod FlatRows
 pub mod Numbered
 pub mod Decided
+pub mod DecidedGrants
 pub mod Examples
 pub mod QueueLemmas

@@ -8,3 +8,5 @@ pub mod Readings
 pub mod Flat
 pub mod Text
 pub mod Laws
+pub mod Tests
+pub mod WorkedWaves

@@ -17,7 +17,8 @@
 //!
 //! In `specs`: `Rows`, what is read in rows; `Requests`, the requests of a port and when each is answered;
 //! `Arbitration`, how the arbiter goes on in a wave; `Legal`, the clauses; `Pairs`, the cycles that a wave shows and
-//! its history; `Shown`, the row of a tick; `Laws` and `Readings`, the statements of the laws.
+//! its history; `Shown`, the row of a tick; `Laws` and `Readings`, the statements of the laws; `Tests`, the clauses as
+//! tests; `WorkedWaves`, three waves that pass them.
 #![tactic(auto)]
 
 pub mod laws;
