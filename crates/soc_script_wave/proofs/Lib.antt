@@ -6,3 +6,4 @@ pub mod Scripted
 pub mod OwnRuns
 pub mod OwnScript
 pub mod RunEnds
+pub mod ScriptExamples
