@@ -6,7 +6,7 @@ use Rattle.std.proofs.lemmas.List.{append-nil}
 use Rattle.std.proofs.Math.Seq.{drop-cons}
 use Rattle.eb_io.specs.Reading.{Reading}
 use Rattle.eb_io.specs.Writing.{Writing, Wrote}
-use Rattle.eb_io.specs.Page.{SentFront, Sends, Paged}
+use Rattle.eb_io.specs.Page.{SentFront, SendsPage, Paged}
 use Rattle.eb_io.specs.declared.sink.WriteFault.{WriteFault}
 use Rattle.eb_io.proofs.WritingLemmas.{Went, went_none, went_on, went_wrong, went_last}
 
@@ -81,13 +81,13 @@ module _ {S : Type 0} (writing : S → Writing) (reading : S → Reading) where
   wrong_page old new page held text fault result is none paged =
       went_wrong writing reading old old new text text [] fault result is
       (subst (λ (l : List ℕ). Went writing reading old old text l) (sym (append-nil text)) (went_none writing reading old text))
-      (record { all = subst (λ (l : List ℕ). Sends (writing old) (writing new) (l ++ text) held (Err fault)) none paged.all; beside = paged.beside })
+      (record { all = subst (λ (l : List ℕ). SendsPage (writing old) (writing new) (l ++ text) held (Err fault)) none paged.all; beside = paged.beside })
 
   -- or the rest of it is written
   pub flushed : (old mid new : S) (page held text : List ℕ) (result : Result ⊤ WriteFault) → page ≡ []
       → Paged writing reading old mid page held text (Ok tt) → Wrote writing reading mid new held result → Wrote writing reading old new text result
   flushed old mid new page held text result none paged wrote =
-      let sent : SentFront (writing old) (writing mid) text held = subst (λ (l : List ℕ). Sends (writing old) (writing mid) (l ++ text) held (Ok tt)) none paged.all in
+      let sent : SentFront (writing old) (writing mid) text held = subst (λ (l : List ℕ). SendsPage (writing old) (writing mid) (l ++ text) held (Ok tt)) none paged.all in
       went_last writing reading old mid new text held result (record { front = sent.front; whole = sent.parts; took = sent.took; beside = paged.beside }) wrote
 
   -- ---- the text of a list, item by item

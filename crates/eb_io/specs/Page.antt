@@ -12,11 +12,11 @@ pub record SentFront (old new : Writing) (text held : List ℕ) : Type 0 where
 
 -- What putting the last of this text did, by its answer: the page holds what didn't go out, or a front of the text went out and
 -- then a write failed.
-abbrev pub Sends : Writing → Writing → List ℕ → List ℕ → Result ⊤ WriteFault → Type 0
-Sends old new text held (Ok done) = SentFront old new text held
-Sends old new text held (Err fault) = WroteFront old new text
+abbrev pub SendsPage : Writing → Writing → List ℕ → List ℕ → Result ⊤ WriteFault → Type 0
+SendsPage old new text held (Ok done) = SentFront old new text held
+SendsPage old new text held (Err fault) = WroteFront old new text
 
 -- What putting a text on a page did to its sink and to what it holds, by its answer. What the sink tells of reads stays as it was.
 pub record Paged {S : Type 0} (writing : S → Writing) (reading : S → Reading) (old new : S) (page held text : List ℕ) (result : Result ⊤ WriteFault) : Type 0 where
-  pub all : Sends (writing old) (writing new) (page ++ text) held result
+  pub all : SendsPage (writing old) (writing new) (page ++ text) held result
   pub beside : reading new ≡ reading old

@@ -3,7 +3,7 @@ use Rattle.std.proofs.Common.{◌≡◌, ℕ, ◌/◌, ◌%◌, slice_index, Lis
 use Rattle.std.proofs.lemmas.List.{take-append-drop}
 use Rattle.hex.specs.Hex.{encode_with, upper_digits}
 use Rattle.eb_io.specs.Text.{hex_text}
-use Rattle.eb_io.proofs.WritingLemmas.{Went}
+use Rattle.eb_io.proofs.PageLemmas.{Paging}
 use Rattle.eb_io.specs.Reading.{Reading}
 use Rattle.eb_io.specs.Writing.{Writing}
 
@@ -24,7 +24,7 @@ hex_parts n xs = ap hex_text (sym (take-append-drop n xs)) ∙ with_both upper_d
 
 module _ {S : Type 0} (writing : S → Writing) (reading : S → Reading) where
   -- a piece of the rest is the next part
-  pub next_piece : (old mid : S) (text rest piece : List ℕ) (n : ℕ) → piece ≡ hex_text (take n rest) → Went writing reading old mid text (hex_text rest)
-      → Went writing reading old mid text (piece ++ hex_text (drop n rest))
-  next_piece old mid text rest piece n is went =
-      subst (λ (l : List ℕ). Went writing reading old mid text l) (hex_parts n rest ∙ ap (λ (l : List ℕ). l ++ hex_text (drop n rest)) (sym is)) went
+  pub next_piece : (old mid : S) (page held text rest piece : List ℕ) (n : ℕ) → piece ≡ hex_text (take n rest) → Paging writing reading old mid page held text (hex_text rest)
+      → Paging writing reading old mid page held text (piece ++ hex_text (drop n rest))
+  next_piece old mid page held text rest piece n is went =
+      subst (λ (l : List ℕ). Paging writing reading old mid page held text l) (hex_parts n rest ∙ ap (λ (l : List ℕ). l ++ hex_text (drop n rest)) (sym is)) went

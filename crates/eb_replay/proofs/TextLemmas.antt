@@ -3,7 +3,7 @@ use Rattle.std.proofs.Common.{◌≡◌, ℕ, suc, ◌+◌, ◌<◌, List, ◌�
 use Rattle.std.proofs.Math.Seq.{drop-cons}
 use Rattle.eb_io.specs.Reading.{Reading}
 use Rattle.eb_io.specs.Writing.{Writing}
-use Rattle.eb_io.proofs.WritingLemmas.{Went}
+use Rattle.eb_io.proofs.PageLemmas.{Paging}
 use Rattle.eb_server.specs.declared.ending.Ending.{Ending}
 use Rattle.eb_server.specs.declared.ending.Ending.TheVariants as ending
 use Rattle.eb_replay.specs.Ports.{PortOutcome}
@@ -17,10 +17,10 @@ lines_ahead xs i x lt is = rw add-one (ap (reply_lines i) (drop-cons xs i x lt �
 
 module _ {S : Type 0} (writing : S → Writing) (reading : S → Reading) where
   -- the line of a port is the next part
-  pub next_port : (old mid : S) (text : List ℕ) (xs : List PortOutcome) (i number : ℕ) (x : PortOutcome) → i < length xs → x ≡ get_or xs i x → number ≡ i
-      → Went writing reading old mid text (reply_lines i (drop i xs)) → Went writing reading old mid text (reply_line number x ++ reply_lines (i + 1) (drop (i + 1) xs))
-  next_port old mid text xs i number x lt is same went =
-      subst (λ (l : List ℕ). Went writing reading old mid text l)
+  pub next_port : (old mid : S) (page held text : List ℕ) (xs : List PortOutcome) (i number : ℕ) (x : PortOutcome) → i < length xs → x ≡ get_or xs i x → number ≡ i
+      → Paging writing reading old mid page held text (reply_lines i (drop i xs)) → Paging writing reading old mid page held text (reply_line number x ++ reply_lines (i + 1) (drop (i + 1) xs))
+  next_port old mid page held text xs i number x lt is same went =
+      subst (λ (l : List ℕ). Paging writing reading old mid page held text l)
       (lines_ahead xs i x lt is ∙ ap (λ (n : ℕ). reply_line n x ++ reply_lines (i + 1) (drop (i + 1) xs)) (sym same)) went
 
 -- ---- the first ending that isn't clean

@@ -1,12 +1,13 @@
 //! The text of a replay.
 ghost use Rattle.std.specs.Prelude.{◌≡◌, ◌≤◌, ◌++◌, length};
 ghost use Rattle.eb_io.specs.Writing.{Wrote};
+ghost use Rattle.eb_io.specs.Page.{Paged};
 ghost use Rattle.eb_replay.specs.Text.{first_unclean, port_head, reply_line, reply_lines, replay_text};
 
-use crate::digits::write_reply;
+use crate::digits::put_reply;
 use crate::ends::end_text;
 use crate::replayed::{Replayed, ReplayedPort};
-use eb_io::{Line, Sink, WriteFault, put_all};
+use eb_io::{Line, Page, Sink, WriteFault};
 use eb_server::Ending;
 
 // A port by its number, and how its stream ended.
@@ -21,22 +22,41 @@ fn port_head(number: u64, ending: Ending) -> Line<128>
     text
 }
 
-fn write_port<K: Sink>(number: u64, port: &ReplayedPort, sink: &mut K) -> Result<(), WriteFault>
-    ensures wrote { Wrote K.writing K.beside_writes sink.old sink.new (reply_line number port.now) result }
+fn put_port<K: Sink>(
+    number: u64,
+    port: &ReplayedPort,
+    page: &mut Page,
+    sink: &mut K,
+) -> Result<(), WriteFault>
+    ensures paged { Paged K.writing K.beside_writes sink.old sink.new page.old page.new
+        (reply_line number port.now) result }
 {
-    put_all(sink, port_head(number, port.ending).as_slice())?;
-    write_reply(&port.reply, sink)
+    page.put(port_head(number, port.ending).as_slice(), sink)?;
+    put_reply(&port.reply, page, sink)
+}
+
+fn put_ports<K: Sink>(
+    ports: &[ReplayedPort],
+    page: &mut Page,
+    sink: &mut K,
+) -> Result<(), WriteFault>
+    ensures paged { Paged K.writing K.beside_writes sink.old sink.new page.old page.new
+        (reply_lines 0 ports.now) result }
+{
+    let mut number = 0;
+    for port in ports {
+        put_port(number, port, page, sink)?;
+        number += 1;
+    }
+    Ok(())
 }
 
 fn write_ports<K: Sink>(ports: &[ReplayedPort], sink: &mut K) -> Result<(), WriteFault>
     ensures wrote { Wrote K.writing K.beside_writes sink.old sink.new (reply_lines 0 ports.now) result }
 {
-    let mut number = 0;
-    for port in ports {
-        write_port(number, port, sink)?;
-        number += 1;
-    }
-    Ok(())
+    let mut page = Page::new();
+    put_ports(ports, &mut page, sink)?;
+    page.flush(sink)
 }
 
 impl Replayed {

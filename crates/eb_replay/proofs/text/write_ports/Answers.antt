@@ -1,30 +1,12 @@
-use Rattle.std.proofs.Common.{refl, arith, drop, ◌+◌}
-use Rattle.eb_io.proofs.WritingLemmas.{went_none, went_on, went_wrong}
-use Rattle.eb_replay.specs.Text.{reply_line, reply_lines}
-use Rattle.eb_replay.proofs.TextLemmas.{next_port}
+use Rattle.eb_io.proofs.PageLemmas.{wrong_page, flushed}
 use Rattle.eb_replay.proofs.text.write_ports.Goals as goal
 
-pub loop-port-init : goal.loop-port-init
-loop-port-init g c = record {
-  number = refl;
-  went = went_none g.K.Sink.writing g.K.Sink.beside_writes c.args.sink.now (reply_lines 0 c.args.ports.now);
+pub returns-in_err-put_ports : goal.returns-in_err-put_ports
+returns-in_err-put_ports g c = record {
+  wrote = wrong_page g.K.Sink.writing g.K.Sink.beside_writes _ _ _ _ _ _ _ c.from_residual.ensures.0 c.new-page.ensures.empty c.in_err-put_ports.ensures.paged;
 }
 
-pub returns-in_err-write_port : goal.returns-in_err-write_port
-returns-in_err-write_port g c =
-    let at = c.loop-port in
-    record {
-      wrote = went_wrong g.K.Sink.writing g.K.Sink.beside_writes _ _ _ (reply_lines 0 c.args.ports.now) (reply_line at.number c.port-item.result) (reply_lines (at.port-index + 1) (drop (at.port-index + 1) c.args.ports.now)) _ _
-          c.from_residual.ensures.0 (next_port g.K.Sink.writing g.K.Sink.beside_writes _ _ (reply_lines 0 c.args.ports.now) c.args.ports.now at.port-index at.number c.port-item.result (omega arith) c.port-item.is at.invariant.number at.invariant.went)
-          c.in_err-write_port.ensures.wrote;
-    }
-
-pub loop-port-preserved : goal.loop-port-preserved
-loop-port-preserved g c =
-    let at = c.loop-port in
-    record {
-      number = omega (arith, at.invariant.number);
-      went = went_on g.K.Sink.writing g.K.Sink.beside_writes _ _ _ (reply_lines 0 c.args.ports.now) (reply_line at.number c.port-item.result) (reply_lines (at.port-index + 1) (drop (at.port-index + 1) c.args.ports.now))
-          (next_port g.K.Sink.writing g.K.Sink.beside_writes _ _ (reply_lines 0 c.args.ports.now) c.args.ports.now at.port-index at.number c.port-item.result (omega arith) c.port-item.is at.invariant.number at.invariant.went)
-          c.in_ok-write_port.ensures.wrote;
-    }
+pub returns : goal.returns
+returns g c = record {
+  wrote = flushed g.K.Sink.writing g.K.Sink.beside_writes _ _ _ _ _ _ _ c.new-page.ensures.empty c.in_ok-put_ports.ensures.paged c.flush.ensures.wrote;
+}
