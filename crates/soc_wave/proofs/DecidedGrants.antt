@@ -8,7 +8,7 @@ use Rattle.wb_crossbar.specs.Grant.{Turn, port_at, port_after, IsFree, IsDecided
 use Rattle.soc_core.specs.Fabric.{Fabric}
 use Rattle.soc_wave.specs.Rows.{holder_in}
 use Rattle.soc_wave.specs.Arbitration.{Arbitration, Granting, IsArbitrated, AreArbitrated, course_at, with_cycs, awaited_set, all_held, turn_in, arbitrated, holding_from}
-use Rattle.soc_wave.specs.Tests.{implies, all_below, apart_from, place_apart, set_free, decided_for, port_decided, grant_right, not_granted, not_granted_after, granted_last, next_after, next_right, same_number, holder_shown, arbitrated_right, all_arbitrated}
+use Rattle.soc_wave.specs.Tests.{implies, all_below, set_apart_from, place_apart, set_free, decided_for, port_decided, grant_right, not_granted, not_granted_after, granted_last, next_after, next_right, same_number, holder_shown, arbitrated_right, all_arbitrated}
 use Rattle.soc_wave.proofs.PortRows.{false_true}
 use Rattle.soc_wave.proofs.Decided.{implied, both, join, agreed, itself, below_hold}
 
@@ -50,12 +50,12 @@ numbers_same (Some a) (Some b) h = ap (λ (n : ℕ). Some n) (eqb-true a b h)
 
 -- ---- a set that is free
 
-apart_by : (set : ℕ) (granted : Bool) (o : Option ℕ) → apart_from set granted o ≡ true → (other : ℕ) → granted ≡ true → o ≡ Some other → bit_and other set ≡ 0
+apart_by : (set : ℕ) (granted : Bool) (o : Option ℕ) → set_apart_from set granted o ≡ true → (other : ℕ) → granted ≡ true → o ≡ Some other → bit_and other set ≡ 0
 apart_by set granted None h other g is = absurd (none_some other is)
 apart_by set granted (Some x) h other g is =
     subst (λ (n : ℕ). bit_and n set ≡ 0) (some_same x other is) (eqb-true (bit_and x set) 0 (implied granted (bit_and x set == 0) h g))
 
-apart_all : (set : ℕ) (granted : Bool) (o : Option ℕ) → ((other : ℕ) → granted ≡ true → o ≡ Some other → bit_and other set ≡ 0) → apart_from set granted o ≡ true
+apart_all : (set : ℕ) (granted : Bool) (o : Option ℕ) → ((other : ℕ) → granted ≡ true → o ≡ Some other → bit_and other set ≡ 0) → set_apart_from set granted o ≡ true
 apart_all set granted None h = refl
 apart_all set granted (Some x) h = implies_by granted (bit_and x set == 0) (λ g. equal_true (bit_and x set) 0 (h x g refl))
 

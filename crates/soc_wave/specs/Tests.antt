@@ -94,12 +94,12 @@ holds_slaves f old row m =
 -- ---- the grants
 
 -- a set that has nothing in common with that of a port that is granted
-abbrev pub apart_from : ℕ → Bool → Option ℕ → Bool
-apart_from set granted None = true
-apart_from set granted (Some other) = implies granted (bit_and other set == 0)
+abbrev pub set_apart_from : ℕ → Bool → Option ℕ → Bool
+set_apart_from set granted None = true
+set_apart_from set granted (Some other) = implies granted (bit_and other set == 0)
 
 abbrev pub place_apart : Turn → (ℕ → Option ℕ) → ℕ → ℕ → ℕ → Bool
-place_apart turn wants grant set j = apart_from set (bit_at grant (port_at turn j) == 1) (wants (port_at turn j))
+place_apart turn wants grant set j = set_apart_from set (bit_at grant (port_at turn j) == 1) (wants (port_at turn j))
 
 -- a set that is free for the port that is looked at after i others
 abbrev pub set_free : Turn → (ℕ → Option ℕ) → ℕ → ℕ → ℕ → ℕ → Bool
