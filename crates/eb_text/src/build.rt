@@ -2,9 +2,10 @@
 ghost use Rattle.std.specs.Prelude.{◌≡◌, length};
 ghost use Rattle.eb_io.specs.Text.{hex_text, line};
 ghost use Rattle.eb_io.specs.Writing.{Wrote};
+ghost use Rattle.eb_io.specs.Page.{Paged};
 ghost use Rattle.eb_text.specs.Build.{build_text, record_count, record_lines, table_line, table_text};
 
-use eb_io::{Line, Sink, WriteFault, put_all};
+use eb_io::{Line, Page, Sink, WriteFault};
 use sdb_build::Image;
 
 // The octets of an SDB record.
@@ -21,14 +22,14 @@ fn record_line(octets: &[u8]) -> Line<129>
     line
 }
 
-// Writes the records of a table.
-fn write_records<K: Sink>(octets: &[u8], sink: &mut K) -> Result<(), WriteFault>
-    ensures wrote { Wrote K.writing K.beside_writes sink.old sink.new
+// Puts the records of a table.
+fn put_records<K: Sink>(octets: &[u8], page: &mut Page, sink: &mut K) -> Result<(), WriteFault>
+    ensures paged { Paged K.writing K.beside_writes sink.old sink.new page.old page.new
         (record_lines (record_count octets.now) octets.now) result }
 {
     let mut rest = octets;
     'records: while rest.len() >= RECORD_LEN {
-        put_all(sink, record_line(&rest[..RECORD_LEN]).as_slice())?;
+        page.put(record_line(&rest[..RECORD_LEN]).as_slice(), sink)?;
         rest = &rest[RECORD_LEN..];
     }
     Ok(())
@@ -46,13 +47,29 @@ fn table_line(at: u64, count: u64) -> Line<44>
     line
 }
 
-// Writes a table.
-fn write_table<K: Sink>(at: u64, octets: &[u8], sink: &mut K) -> Result<(), WriteFault>
-    ensures wrote { Wrote K.writing K.beside_writes sink.old sink.new (table_text at octets.now) result }
+// Puts a table.
+fn put_table<K: Sink>(
+    at: u64,
+    octets: &[u8],
+    page: &mut Page,
+    sink: &mut K,
+) -> Result<(), WriteFault>
+    ensures paged { Paged K.writing K.beside_writes sink.old sink.new page.old page.new
+        (table_text at octets.now) result }
 {
     let count = (octets.len() / RECORD_LEN) as u64;
-    put_all(sink, table_line(at, count).as_slice())?;
-    write_records(octets, sink)
+    page.put(table_line(at, count).as_slice(), sink)?;
+    put_records(octets, page, sink)
+}
+
+fn put_tables<K: Sink>(images: &[Image], page: &mut Page, sink: &mut K) -> Result<(), WriteFault>
+    ensures paged { Paged K.writing K.beside_writes sink.old sink.new page.old page.new
+        (build_text images.now) result }
+{
+    for image in images {
+        put_table(image.at, image.octets.as_slice(), page, sink)?;
+    }
+    Ok(())
 }
 
 /// Writes the tables of a description as text: for each bus a line `table ADDRESS COUNT`, ADDRESS being the absolute
@@ -61,8 +78,7 @@ fn write_table<K: Sink>(at: u64, octets: &[u8], sink: &mut K) -> Result<(), Writ
 pub fn write_build<K: Sink>(images: &[Image], sink: &mut K) -> Result<(), WriteFault>
     ensures wrote { Wrote K.writing K.beside_writes sink.old sink.new (build_text images.now) result }
 {
-    for image in images {
-        write_table(image.at, image.octets.as_slice(), sink)?;
-    }
-    Ok(())
+    let mut page = Page::new();
+    put_tables(images, &mut page, sink)?;
+    page.flush(sink)
 }

@@ -3,11 +3,12 @@ ghost use Rattle.std.specs.Prelude.{◌≡◌, ◌≤◌, ◌+◌, ◌++◌, tru
 ghost use Rattle.eb_base.specs.Name.{are_printed};
 ghost use Rattle.eb_io.specs.Text.{line};
 ghost use Rattle.eb_io.specs.Writing.{Wrote};
+ghost use Rattle.eb_io.specs.Page.{Paged};
 ghost use Rattle.sdb_record.specs.Text.{text_in};
 ghost use Rattle.eb_text.specs.Listing.{component_text, digits_8, entry_text, found_line, listing_text, path_text, product_text, steps_text};
 
 use eb_base::Product;
-use eb_io::{Line, Sink, WriteFault, put_all};
+use eb_io::{Line, Page, Sink, WriteFault};
 use sdb_record::Record;
 use sdb_walk::{Found, Tree};
 
@@ -113,32 +114,45 @@ fn step_text(before: &[u8], step: u16) -> Line<21>
     out
 }
 
-// Writes places, each behind a dot.
-fn write_steps<K: Sink>(steps: &[u16], sink: &mut K) -> Result<(), WriteFault>
-    ensures wrote { Wrote K.writing K.beside_writes sink.old sink.new (steps_text steps.now) result }
+// Puts places, each behind a dot.
+fn put_steps<K: Sink>(steps: &[u16], page: &mut Page, sink: &mut K) -> Result<(), WriteFault>
+    ensures paged { Paged K.writing K.beside_writes sink.old sink.new page.old page.new
+        (steps_text steps.now) result }
 {
     for step in steps {
-        put_all(sink, step_text(b".", *step).as_slice())?;
+        page.put(step_text(b".", *step).as_slice(), sink)?;
     }
     Ok(())
 }
 
-// Writes the path of a record. It goes out in parts, since it may have any number of places.
-fn write_path<K: Sink>(path: &[u16], sink: &mut K) -> Result<(), WriteFault>
-    ensures wrote { Wrote K.writing K.beside_writes sink.old sink.new (path_text path.now) result }
+// Puts the path of a record. It goes out in parts, since it may have any number of places.
+fn put_path<K: Sink>(path: &[u16], page: &mut Page, sink: &mut K) -> Result<(), WriteFault>
+    ensures paged { Paged K.writing K.beside_writes sink.old sink.new page.old page.new
+        (path_text path.now) result }
 {
     let [first, steps @ ..] = path else {
         return Ok(());
     };
-    put_all(sink, step_text(b"", *first).as_slice())?;
-    write_steps(steps, sink)
+    page.put(step_text(b"", *first).as_slice(), sink)?;
+    put_steps(steps, page, sink)
 }
 
-fn write_found<K: Sink>(found: &Found, sink: &mut K) -> Result<(), WriteFault>
-    ensures wrote { Wrote K.writing K.beside_writes sink.old sink.new (found_line found.now) result }
+fn put_found<K: Sink>(found: &Found, page: &mut Page, sink: &mut K) -> Result<(), WriteFault>
+    ensures paged { Paged K.writing K.beside_writes sink.old sink.new page.old page.new
+        (found_line found.now) result }
 {
-    write_path(found.path.as_slice(), sink)?;
-    put_all(sink, entry_line(found).as_slice())
+    put_path(found.path.as_slice(), page, sink)?;
+    page.put(entry_line(found).as_slice(), sink)
+}
+
+fn put_tree<K: Sink>(tree: &Tree, page: &mut Page, sink: &mut K) -> Result<(), WriteFault>
+    ensures paged { Paged K.writing K.beside_writes sink.old sink.new page.old page.new
+        (listing_text tree.now) result }
+{
+    for found in tree.as_slice() {
+        put_found(found, page, sink)?;
+    }
+    Ok(())
 }
 
 /// Writes the records of a tree as text, in its order, a line a record:
@@ -154,8 +168,7 @@ fn write_found<K: Sink>(found: &Found, sink: &mut K) -> Result<(), WriteFault>
 pub fn write_listing<K: Sink>(tree: &Tree, sink: &mut K) -> Result<(), WriteFault>
     ensures wrote { Wrote K.writing K.beside_writes sink.old sink.new (listing_text tree.now) result }
 {
-    for found in tree.as_slice() {
-        write_found(found, sink)?;
-    }
-    Ok(())
+    let mut page = Page::new();
+    put_tree(tree, &mut page, sink)?;
+    page.flush(sink)
 }

@@ -1,21 +1,12 @@
-use Rattle.std.proofs.Common.{ℕ, List, refl, ap, arith}
-use Rattle.sdb_build.specs.declared.image.Image.{Image}
-use Rattle.eb_io.proofs.WritingLemmas.{went_none, went_item, wrong_item}
-use Rattle.eb_text.specs.Build.{table_text, build_text}
+use Rattle.eb_io.proofs.PageLemmas.{wrong_page, flushed}
 use Rattle.eb_text.proofs.build.write_build.Goals as goal
 
-pub loop-image-init : goal.loop-image-init
-loop-image-init g c = went_none g.K.Sink.writing g.K.Sink.beside_writes c.args.sink.now (build_text c.args.images.now)
-
-pub returns-in_err-write_table : goal.returns-in_err-write_table
-returns-in_err-write_table g c = record {
-  wrote = wrong_item g.K.Sink.writing g.K.Sink.beside_writes (λ (image : Image). table_text image.at image.octets) build_text (λ image images. refl) _ _ _ c.args.images.now
-      c.loop-image.image-index c.image-item.result _ _ _ c.from_residual.ensures.0 (omega arith) c.image-item.is
-      (ap (λ (octets : List ℕ). table_text c.image-item.result.at octets) c.as_slice.ensures.items) c.loop-image.invariant c.in_err-write_table.ensures.wrote;
+pub returns-in_err-put_tables : goal.returns-in_err-put_tables
+returns-in_err-put_tables g c = record {
+  wrote = wrong_page g.K.Sink.writing g.K.Sink.beside_writes _ _ _ _ _ _ _ c.from_residual.ensures.0 c.new-page.ensures.empty c.in_err-put_tables.ensures.paged;
 }
 
-pub loop-image-preserved : goal.loop-image-preserved
-loop-image-preserved g c =
-    went_item g.K.Sink.writing g.K.Sink.beside_writes (λ (image : Image). table_text image.at image.octets) build_text (λ image images. refl) _ _ _ c.args.images.now
-    c.loop-image.image-index c.image-item.result _ (omega arith) c.image-item.is
-    (ap (λ (octets : List ℕ). table_text c.image-item.result.at octets) c.as_slice.ensures.items) c.loop-image.invariant c.in_ok-write_table.ensures.wrote
+pub returns : goal.returns
+returns g c = record {
+  wrote = flushed g.K.Sink.writing g.K.Sink.beside_writes _ _ _ _ _ _ _ c.new-page.ensures.empty c.in_ok-put_tables.ensures.paged c.flush.ensures.wrote;
+}

@@ -1,8 +1,0 @@
-use Rattle.std.proofs.Common.{drop}
-use Rattle.eb_io.proofs.WritingLemmas.{Went}
-use Rattle.eb_text.specs.Build.{build_text}
-use Rattle.eb_text.proofs.build.write_build.Given as goal
-
-abbrev pub invariant-loop-image : goal.invariant-loop-image
-invariant-loop-image g l =
-    Went g.K.Sink.writing g.K.Sink.beside_writes l.initial.sink l.sink (build_text l.images) (build_text (drop l.image-index l.images))

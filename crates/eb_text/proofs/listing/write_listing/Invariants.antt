@@ -1,8 +1,0 @@
-use Rattle.std.proofs.Common.{drop}
-use Rattle.eb_io.proofs.WritingLemmas.{Went}
-use Rattle.eb_text.specs.Listing.{listing_text}
-use Rattle.eb_text.proofs.listing.write_listing.Given as goal
-
-abbrev pub invariant-loop-found : goal.invariant-loop-found
-invariant-loop-found g l =
-    Went g.K.Sink.writing g.K.Sink.beside_writes l.initial.sink l.sink (listing_text l.tree) (listing_text (drop l.found-index l.tree))
