@@ -1,4 +1,4 @@
-use eb_io::{Got, MemSink, Opened, RealWorld, Source, World, WriteSink, put_all};
+use eb_io::{Got, MemSink, Opened, Page, RealWorld, Source, World, WriteSink, put_all};
 use std::test::Fail;
 
 #[test]
@@ -9,6 +9,24 @@ fn sinks_take_what_they_have_room_for(rt: HostRuntime) -> Result<(), Fail> {
     assert!(rt; put_all(&mut sink, &[4]).is_err());
     assert!(rt; put_all(&mut sink, &[5, 6, 7]).is_err());
     assert_eq!(rt; sink.octets(), [1, 2, 3, 5, 6].as_slice());
+    Ok(())
+}
+
+#[test]
+fn a_page_whose_write_fails_leaves_a_front(rt: HostRuntime) -> Result<(), Fail> {
+    let alloc = rt.alloc();
+    for (k, front) in [
+        (0, b"".as_slice()),
+        (3, b"abc".as_slice()),
+        (7, b"abcdefg".as_slice()),
+    ] {
+        let mut sink = MemSink::new(alloc, 8, 1, Vec::from_slice(alloc, &[k])?)?;
+        let mut page = Page::new();
+        assert!(rt; page.put(b"abcd", &mut sink).is_ok());
+        assert!(rt; page.put(b"efgh", &mut sink).is_ok());
+        assert!(rt; page.flush(&mut sink).is_err());
+        assert_eq!(rt; sink.octets(), front);
+    }
     Ok(())
 }
 
