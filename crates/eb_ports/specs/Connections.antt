@@ -1,12 +1,18 @@
 -- How a port serves its connections, one after another.
 use Rattle.std.specs.Prelude.{◌≡◌, ◌⊎◌, ℕ, ◌<◌, ◌≤◌, List, [], ◌∷◌, Bool, true, false, length}
-use Rattle.eb_net.specs.Accepting.{DoorState, OpenedLink, NoLinkLeft, AcceptFailed}
+use Rattle.eb_io.specs.Reading.{Reading}
+use Rattle.eb_io.specs.Writing.{Writing}
+use Rattle.eb_net.specs.Accepting.{Accepting, DoorState, OpenedLink, NoLinkLeft, AcceptFailed}
 use Rattle.wb_signals.specs.Cycles.{MasterCycles}
 use Rattle.eb_session.specs.declared.slave.Slave.{Slave}
 use Rattle.eb_server.specs.declared.ending.Ending.{Ending}
 use Rattle.eb_server.specs.declared.ending.Ending.TheVariants as ending
 use Rattle.eb_server.specs.Serving.{Served}
 use Rattle.eb_ports.specs.Ends.{EndsState}
+
+-- All that a door tells: the reads and writes of the link that stands at it, and its accepts.
+abbrev pub door_told : {D L : Type 0} → (L → Reading) → (L → Writing) → (D → L) → (D → Accepting) → D → DoorState
+door_told reading writing standing accepting door = record { reading = reading (standing door); writing = writing (standing door); accepting = accepting door }
 
 -- The stream of the connection that stands was served, by a master of the number m.
 pub record ServedStanding (m : ℕ) (s : Slave) (old new : DoorState) (first after : MasterCycles) (e : Ending) : Type 0 where

@@ -1,6 +1,6 @@
 //! How the connections of a port are served, one after another.
 ghost use Rattle.std.specs.Prelude.{◌≡◌, []};
-ghost use Rattle.eb_ports.specs.Connections.{WasServed, AwaitsEndings, ServedPort};
+ghost use Rattle.eb_ports.specs.Connections.{door_told, WasServed, AwaitsEndings, ServedPort};
 
 use crate::ends::Ends;
 use eb_net::{Accepted, Door};
@@ -22,16 +22,8 @@ fn serve_connection<D: Door, M: Master>(
     requires width { (M.identity master.old).bus ≡ slave.bus }
     requires none_open { (M.cycles master.old).opened ≡ [] }
     ensures served { WasServed (M.identity master.old).number slave
-        (record {
-          reading = D.Link.reading (D.standing door.old);
-          writing = D.Link.writing (D.standing door.old);
-          accepting = D.accepting door.old;
-        })
-        (record {
-          reading = D.Link.reading (D.standing door.new);
-          writing = D.Link.writing (D.standing door.new);
-          accepting = D.accepting door.new;
-        })
+        (door_told D.Link.reading D.Link.writing D.standing D.accepting door.old)
+        (door_told D.Link.reading D.Link.writing D.standing D.accepting door.new)
         (M.cycles master.old) (M.cycles master.new) result }
     ensures none_open { (M.cycles master.new).opened ≡ [] }
     ensures identity { M.identity master.new ≡ M.identity master.old }
@@ -63,16 +55,8 @@ pub fn serve_port<D: Door, M: Master>(
     requires none_open { (M.cycles master.old).opened ≡ [] }
     requires ends { AwaitsEndings connections ends.old }
     ensures served { ServedPort (M.identity master.old).number slave connections
-        (record {
-          reading = D.Link.reading (D.standing door.old);
-          writing = D.Link.writing (D.standing door.old);
-          accepting = D.accepting door.old;
-        })
-        (record {
-          reading = D.Link.reading (D.standing door.new);
-          writing = D.Link.writing (D.standing door.new);
-          accepting = D.accepting door.new;
-        })
+        (door_told D.Link.reading D.Link.writing D.standing D.accepting door.old)
+        (door_told D.Link.reading D.Link.writing D.standing D.accepting door.new)
         (M.cycles master.old) (M.cycles master.new) ends.new }
     ensures room { ends.new.most ≡ ends.old.most }
     ensures none_open { (M.cycles master.new).opened ≡ [] }

@@ -3,16 +3,16 @@ use Rattle.eb_net.specs.Accepting.{DoorState}
 use Rattle.wb_signals.specs.Cycles.{MasterCycles}
 use Rattle.eb_server.specs.declared.ending.Ending.{Ending}
 use Rattle.eb_ports.specs.Ends.{EndsState, endings_added}
-use Rattle.eb_ports.specs.Connections.{ServedConnection, ServedConnections, ServedPort}
+use Rattle.eb_ports.specs.Connections.{door_told, ServedConnection, ServedConnections, ServedPort}
 use Rattle.eb_ports.proofs.ConnectionLemmas.{connected_more}
 use Rattle.eb_ports.proofs.port.serve_port.Goals as goal
 
 pub returns-in-Failed-clause-served : goal.returns-in-Failed-clause-served
 returns-in-Failed-clause-served g c =
     let i = c.serving.invariant in
-    let old : DoorState = record { reading = g.D.Link.Source.reading (g.D.Door.standing c.args.door.now); writing = g.D.Link.Sink.writing (g.D.Door.standing c.args.door.now); accepting = g.D.Door.accepting c.args.door.now } in
-    let last : DoorState = record { reading = g.D.Link.Source.reading (g.D.Door.standing c.serving.door); writing = g.D.Link.Sink.writing (g.D.Door.standing c.serving.door); accepting = g.D.Door.accepting c.serving.door } in
-    let new : DoorState = record { reading = g.D.Link.Source.reading (g.D.Door.standing c.accept.new.self); writing = g.D.Link.Sink.writing (g.D.Door.standing c.accept.new.self); accepting = g.D.Door.accepting c.accept.new.self } in
+    let old : DoorState = door_told g.D.Link.Source.reading g.D.Link.Sink.writing g.D.Door.standing g.D.Door.accepting c.args.door.now in
+    let last : DoorState = door_told g.D.Link.Source.reading g.D.Link.Sink.writing g.D.Door.standing g.D.Door.accepting c.serving.door in
+    let new : DoorState = door_told g.D.Link.Source.reading g.D.Link.Sink.writing g.D.Door.standing g.D.Door.accepting c.accept.new.self in
     let fewer : length c.serving.ends.endings < c.args.connections = omega (arith, i.count, c.serving-test.true) in
     subst (λ (k : EndsState). ServedPort (g.M.Master.identity c.args.master.now).number c.args.slave c.args.connections old new (g.M.Master.cycles c.args.master.now) (g.M.Master.cycles c.serving.master) k) (sym c.fail.ensures.failed)
     record { last = last; connections = i.served; stops = (fewer, c.in-Failed.ensures.accepts) }
@@ -22,10 +22,10 @@ serving-preserved g c =
     let i = c.serving.invariant in
     let m = (g.M.Master.identity c.args.master.now).number in
     let e : Ending = c.serve_connection-ending.result in
-    let old : DoorState = record { reading = g.D.Link.Source.reading (g.D.Door.standing c.args.door.now); writing = g.D.Link.Sink.writing (g.D.Door.standing c.args.door.now); accepting = g.D.Door.accepting c.args.door.now } in
-    let mid : DoorState = record { reading = g.D.Link.Source.reading (g.D.Door.standing c.serving.door); writing = g.D.Link.Sink.writing (g.D.Door.standing c.serving.door); accepting = g.D.Door.accepting c.serving.door } in
-    let opened : DoorState = record { reading = g.D.Link.Source.reading (g.D.Door.standing c.accept.new.self); writing = g.D.Link.Sink.writing (g.D.Door.standing c.accept.new.self); accepting = g.D.Door.accepting c.accept.new.self } in
-    let new : DoorState = record { reading = g.D.Link.Source.reading (g.D.Door.standing c.serve_connection-ending.new.door); writing = g.D.Link.Sink.writing (g.D.Door.standing c.serve_connection-ending.new.door); accepting = g.D.Door.accepting c.serve_connection-ending.new.door } in
+    let old : DoorState = door_told g.D.Link.Source.reading g.D.Link.Sink.writing g.D.Door.standing g.D.Door.accepting c.args.door.now in
+    let mid : DoorState = door_told g.D.Link.Source.reading g.D.Link.Sink.writing g.D.Door.standing g.D.Door.accepting c.serving.door in
+    let opened : DoorState = door_told g.D.Link.Source.reading g.D.Link.Sink.writing g.D.Door.standing g.D.Door.accepting c.accept.new.self in
+    let new : DoorState = door_told g.D.Link.Source.reading g.D.Link.Sink.writing g.D.Door.standing g.D.Door.accepting c.serve_connection-ending.new.door in
     let first : MasterCycles = g.M.Master.cycles c.args.master.now in
     let between : MasterCycles = g.M.Master.cycles c.serving.master in
     let after : MasterCycles = g.M.Master.cycles c.serve_connection-ending.new.master in
