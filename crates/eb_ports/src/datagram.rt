@@ -90,8 +90,8 @@ fn run_datagram<M: Master>(
     requires none_open { (M.cycles master.old).opened ≡ [] }
     requires short { length octets.now < 2 ^ 32 }
     requires room { length octets.now ≤ vec_capacity replies.old }
-    ensures ran { RanDatagram (M.identity master.old).number session.old.slave (M.cycles master.old) (M.cycles master.new)
-        octets.now replies.new.items result }
+    ensures ran { RanDatagram (M.identity master.old).number session.old.slave
+        (M.cycles master.old) (M.cycles master.new) octets.now replies.new.items result }
     ensures room { vec_capacity replies.old ≤ vec_capacity replies.new }
     ensures none_open { (M.cycles master.new).opened ≡ [] }
     ensures identity { M.identity master.new ≡ M.identity master.old }

@@ -39,10 +39,10 @@ fn serve_connection<D: Door, M: Master>(
 
 /// Serves so many connections of a door, one after another, each by a session of its own as this slave.
 ///
-/// There is an ending for each connection that the door opened, and fewer than asked for exactly where an accept failed
-/// or no link was left; the door is said to have failed exactly where an accept failed. A connection's fault doesn't end
-/// the port, and `NoMemory` also comes where there was no memory for a connection's session, of which nothing was read
-/// then. No cycle is open afterwards.
+/// There is an ending for each connection that the door opened, and fewer than asked for exactly where an accept
+/// failed or no link was left; the door is said to have failed exactly where an accept failed. A connection's fault
+/// doesn't end the port. `NoMemory` also comes where there was no memory for a connection's session, of which nothing
+/// was read then. No cycle is open afterwards.
 pub fn serve_port<D: Door, M: Master>(
     alloc: Global,
     door: &mut D,

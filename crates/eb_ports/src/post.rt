@@ -41,11 +41,11 @@ fn serve_datagrams<P: Post, M: Master>(
 /// Serves so many datagrams of a post, one after another, each by a session of its own as this slave: its replies, if
 /// any, go out as one datagram after its last item that ran.
 ///
-/// There is an ending for each receive, and fewer than asked for exactly where a receive finds none left. A receive that
-/// fails counts as a datagram, with the ending `ReadFault`. `WriteFault` comes exactly where the session ended as
-/// `Clean` and the send failed; another ending of the session stands, sent or not. `NoMemory` also comes where there was
-/// no memory for the session, of which nothing ran then; and as the one ending where there was none for the rooms of a
-/// datagram and its replies, which are taken first. No cycle is open afterwards.
+/// There is an ending for each receive, and fewer than asked for exactly where a receive finds none left. A receive
+/// that fails counts as a datagram, with the ending `ReadFault`. `WriteFault` comes exactly where the session ended as
+/// `Clean` and the send failed; another ending of the session stands, sent or not. `NoMemory` also comes where there
+/// was no memory for the session, of which nothing ran then; and as the one ending where there was none for the rooms
+/// of a datagram and its replies, which are taken first. No cycle is open afterwards.
 pub fn serve_post<P: Post, M: Master>(
     alloc: Global,
     post: &mut P,
