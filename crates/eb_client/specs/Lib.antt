@@ -1,2 +1,3 @@
 pub mod Place
 pub mod ClientWords
+pub mod ClientLines
