@@ -3,7 +3,7 @@ use Rattle.std.proofs.Common.{◌≡◌, ℕ, ◌^◌, ◌<◌, List, [], ◌∷
 use Rattle.eb_base.specs.declared.width.Width.{Width}
 use Rattle.eb_base.specs.Width.{octets}
 use Rattle.eb_client.specs.Place.{SaysNumber, IsPlace}
-use Rattle.eb_client.specs.ClientWords.{ReadTask, WriteTask, IsRead, IsWrite}
+use Rattle.eb_client.specs.ClientWords.{LsTask, ReadTask, WriteTask, IsRead, IsWrite, OneTask}
 use Rattle.eb_client.proofs.NumberLemmas.{number_once}
 use Rattle.eb_client.proofs.PlaceLemmas.{place_once}
 
@@ -49,3 +49,19 @@ one_write words address other p q v w n m x y =
     let once = place_once y.place_word p q v w (subst (λ (l : List ℕ). IsPlace l p v) word x.places) y.places in
     let value = number_once y.value_word n m (subst (λ (l : List ℕ). SaysNumber l n) number x.says_value) y.says_value in
     λ i. WriteTask (first i) (once.0 i) (once.1 i) (value i)
+
+pub one_task : OneTask
+one_task words (LsTask a) (LsTask b) x y =
+    let same : codes "ls" ∷ a ∷ [] ≡ codes "ls" ∷ b ∷ [] = sym x.words_are ∙ y.words_are in
+    let first : a ≡ b = cc same in
+    λ i. LsTask (first i)
+one_task words (LsTask a) (ReadTask b q w) x y = let same : codes "ls" ∷ a ∷ [] ≡ codes "read" ∷ b ∷ y.place_word ∷ [] = sym x.words_are ∙ y.words_are in cc same
+one_task words (LsTask a) (WriteTask b q w m) x y = let same : codes "ls" ∷ a ∷ [] ≡ codes "write" ∷ b ∷ y.place_word ∷ y.value_word ∷ [] = sym x.words_are ∙ y.words_are in cc same
+one_task words (ReadTask a p v) (LsTask b) x y = let same : codes "read" ∷ a ∷ x.place_word ∷ [] ≡ codes "ls" ∷ b ∷ [] = sym x.words_are ∙ y.words_are in cc same
+one_task words (ReadTask a p v) (ReadTask b q w) x y = one_read words a b p q v w x y
+one_task words (ReadTask a p v) (WriteTask b q w m) x y =
+    let same : codes "read" ∷ a ∷ x.place_word ∷ [] ≡ codes "write" ∷ b ∷ y.place_word ∷ y.value_word ∷ [] = sym x.words_are ∙ y.words_are in cc same
+one_task words (WriteTask a p v n) (LsTask b) x y = let same : codes "write" ∷ a ∷ x.place_word ∷ x.value_word ∷ [] ≡ codes "ls" ∷ b ∷ [] = sym x.words_are ∙ y.words_are in cc same
+one_task words (WriteTask a p v n) (ReadTask b q w) x y =
+    let same : codes "write" ∷ a ∷ x.place_word ∷ x.value_word ∷ [] ≡ codes "read" ∷ b ∷ y.place_word ∷ [] = sym x.words_are ∙ y.words_are in cc same
+one_task words (WriteTask a p v n) (WriteTask b q w m) x y = one_write words a b p q v w n m x y

@@ -9,12 +9,14 @@
 //! - `asking`: one operation over a link
 //! - `access`: one word read or written over a link
 //! - `listing`: discovery over a link
+//! - `laws`: what holds of all words
 #![tactic(auto)]
 
 mod access;
 mod asking;
 pub mod command;
 pub mod fault;
+pub mod laws;
 mod lines;
 mod listing;
 mod numbers;
