@@ -1,5 +1,10 @@
 //! The client of a slave at the other end of a link: it lists what is there, reads a word, or writes one.
 //!
+//! Words are a command exactly by their forms, and have one. A command opens a host over the link, with all widths of
+//! addresses and one width of the port, asks for what it needs, and hands the link back. What goes over the link is the
+//! exchange of that host, and what is shown is the answer to it: the digits of a word, a listing, or a fault, which has
+//! a status and a line.
+//!
 //! - `command`: the commands, read from their words
 //! - `numbers`: the numbers in words
 //! - `place`: the place of an access, from its word
