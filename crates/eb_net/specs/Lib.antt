@@ -1,7 +1,11 @@
 pub mod Accepting
 pub mod DoorLink
 pub mod MemDoor
+pub mod MemNet
 pub mod MemPost
+pub mod NetShelf
+pub mod Network
 pub mod Posting
+pub mod RealNet
 pub mod Sockets
 pub mod Tries

@@ -1,0 +1,6 @@
+pub mod NumberLemmas
+pub mod PlaceLemmas
+pub mod TaskLemmas
+pub mod AskingLemmas
+pub mod ShownLemmas
+pub mod ListedLemmas

@@ -1,0 +1,8 @@
+use Rattle.std.proofs.Common.{List, ℕ, ap, ◌∙◌}
+use Rattle.eb_base.specs.Field.{octets_of}
+use Rattle.eb_io.specs.Text.{line, hex_text}
+use Rattle.eb_client.proofs.access.line_of_16.Goals as goal
+
+pub returns : goal.returns
+unfolding octets_of
+returns c = record { value = c.hex_line.ensures.value ∙ ap (λ (l : List ℕ). line (hex_text l)) c.to_be_bytes.ensures }

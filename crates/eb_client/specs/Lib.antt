@@ -1,0 +1,6 @@
+pub mod Place
+pub mod ClientWords
+pub mod ClientLines
+pub mod PlainLink
+pub mod Asking
+pub mod Listed

@@ -1,0 +1,4 @@
+pub mod Ends
+pub mod Datagrams
+pub mod DatagramRooms
+pub mod Connections
