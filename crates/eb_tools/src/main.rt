@@ -1,8 +1,8 @@
 //! The program `eb`: the words of the command line, the real files and the standard streams, and the status.
 #![tactic(auto)]
 
-use eb_io::{RealWorld, WriteSink};
-use eb_run::{Family, Fault, family_of, run_plain, run_shared, write_line};
+use eb_io::{RealWorld, Sink, WriteSink};
+use eb_run::{Family, Fault, Status, family_of, run_plain, run_shared, write_line};
 use std::alloc::Global;
 use std::env;
 use std::io::{self, ErrorKind};
@@ -20,6 +20,12 @@ fn words_of(rt: HostRuntime, alloc: Global) -> Result<Vec<String>, Fault> {
     }
 }
 
+// Tells a fault on standard error.
+fn tell<E: Sink>(fault: &Fault, err: &mut E) -> Status {
+    let _ = write_line(fault, err);
+    fault.status()
+}
+
 fn main(rt: HostRuntime) -> ExitCode {
     let alloc = rt.alloc();
     let mut out = WriteSink::new(rt.stdout());
@@ -28,13 +34,10 @@ fn main(rt: HostRuntime) -> ExitCode {
     let status = match words_of(rt, alloc) {
         Ok(words) => match family_of(&words) {
             Family::Plain => run_plain(alloc, &words, &mut world, &mut out, &mut err),
-            Family::Client => unreachable!(),
+            Family::Client => tell(&Fault::Usage, &mut err),
             Family::Shared => run_shared(&rt, alloc, &words, &mut world, &mut out, &mut err),
         },
-        Err(fault) => {
-            let _ = write_line(&fault, &mut err);
-            fault.status()
-        }
+        Err(fault) => tell(&fault, &mut err),
     };
     ExitCode::from(status.0)
 }
