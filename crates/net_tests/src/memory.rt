@@ -18,60 +18,13 @@ fn link_of(alloc: Global, octets: &[u8]) -> Result<MemLink, NoMemory>
     Ok(MemLink::new(source, sink))
 }
 
-// A net of one door with one peer, and a link.
+// A net of one door with one peer, a post and a link.
 fn net_of(alloc: Global) -> Result<MemNet, NoMemory> {
     let mut links = Vec::new(alloc);
     links.push(link_of(alloc, b"peer")?)?;
     let mut doors = Vec::new(alloc);
     doors.push(MemDoor::new(alloc, links, Vec::new(alloc))?)?;
     let link = link_of(alloc, b"dialled")?;
-    Ok(MemNet::new(alloc, doors, None, Some(link)))
-}
-
-// It gives each once, whatever is asked for, and fails where none is left.
-#[test]
-fn each_once(rt: HostRuntime) -> Result<(), Fail> {
-    let alloc = rt.alloc();
-    let mut net = net_of(alloc)?;
-    assert_eq!(rt; net.listen(1), Opened::Done);
-    assert_eq!(rt; net.listen(2), Opened::Failed);
-    assert_eq!(rt; net.bind(3), Opened::Failed);
-    assert_eq!(rt; net.dial(alloc, "peer"), Opened::Done);
-    assert_eq!(rt; net.dial(alloc, "peer"), Opened::Failed);
-    assert_eq!(rt; net.doors(alloc).len(), 1);
-    assert_eq!(rt; net.doors(alloc).len(), 0);
-    assert_eq!(rt; net.post().is_none(), true);
-    assert_eq!(rt; net.link().is_some(), true);
-    assert_eq!(rt; net.link().is_none(), true);
-    Ok(())
-}
-
-// A door that was handed out gives its peer's octets, and is put back.
-#[test]
-fn handed_out(rt: HostRuntime) -> Result<(), Fail> {
-    let alloc = rt.alloc();
-    let mut net = net_of(alloc)?;
-    assert_eq!(rt; net.listen(1), Opened::Done);
-    let mut doors = net.doors(alloc);
-    let Some(mut door) = doors.pop() else {
-        return Err("no door".into());
-    };
-    let mut room = [0; 4];
-    assert_eq!(rt; door.accept(), Accepted::Open);
-    assert_eq!(rt; door.link().read(&mut room), Got::Some(2));
-    assert_eq!(rt; &room[0..2], b"pe".as_slice());
-    assert_eq!(rt; door.link().write(b"hello"), Put::Some(5));
-    assert_eq!(rt; door.accept(), Accepted::Closed);
-    doors.push(door)?;
-    net.put_doors(doors);
-    assert_eq!(rt; net.doors(alloc).len(), 1);
-    Ok(())
-}
-
-// The post that it was made with receives and sends.
-#[test]
-fn post_in_memory(rt: HostRuntime) -> Result<(), Fail> {
-    let alloc = rt.alloc();
     let post = MemPost::new(
         alloc,
         Vec::new(alloc),
@@ -80,14 +33,77 @@ fn post_in_memory(rt: HostRuntime) -> Result<(), Fail> {
         8,
         Vec::new(alloc),
     )?;
-    let mut net = MemNet::new(alloc, Vec::new(alloc), Some(post), None);
-    assert_eq!(rt; net.bind(1), Opened::Done);
-    let Some(mut post) = net.post() else {
+    Ok(MemNet::new(alloc, doors, Some(post), Some(link)))
+}
+
+// What each call that makes something answers, and then again.
+fn twice(net: &mut MemNet, alloc: Global) -> [Opened; 6] {
+    [
+        net.listen(1),
+        net.listen(2),
+        net.bind(3),
+        net.bind(3),
+        net.dial(alloc, "peer"),
+        net.dial(alloc, "peer"),
+    ]
+}
+
+// How much of each kind is handed out, and then again.
+fn handed_out(net: &mut MemNet, alloc: Global) -> [usize; 6] {
+    [
+        net.doors(alloc).len(),
+        net.doors(alloc).len(),
+        usize::from(net.post().is_some()),
+        usize::from(net.post().is_some()),
+        usize::from(net.link().is_some()),
+        usize::from(net.link().is_some()),
+    ]
+}
+
+// What the connections of a door do.
+fn meet(door: &mut MemDoor) -> (Accepted, Got, Put, Accepted) {
+    let mut room = [0; 4];
+    let accepted = door.accept();
+    let got = door.link().read(&mut room);
+    let put = door.link().write(b"hello");
+    (accepted, got, put, door.accept())
+}
+
+// It gives each once, whatever is asked for, and fails where none is left. What it has is handed out once.
+#[test]
+fn each_once(rt: HostRuntime) -> Result<(), Fail> {
+    let alloc = rt.alloc();
+    let mut net = net_of(alloc)?;
+    let made = twice(&mut net, alloc);
+    let handed = handed_out(&mut net, alloc);
+    drop(net);
+    let (done, failed) = (Opened::Done, Opened::Failed);
+    assert_eq!(rt; made, [done, failed, done, failed, done, failed]);
+    assert_eq!(rt; handed, [1, 0, 1, 0, 1, 0]);
+    Ok(())
+}
+
+// A door gives its peers and is put back, and a post sends as much as it has room for.
+#[test]
+fn used_and_put_back(rt: HostRuntime) -> Result<(), Fail> {
+    let alloc = rt.alloc();
+    let mut net = net_of(alloc)?;
+    let _ = twice(&mut net, alloc);
+    let (mut doors, Some(mut post)) = (net.doors(alloc), net.post()) else {
         return Err("no post".into());
     };
-    assert_eq!(rt; post.send(b"sent"), Put::Some(4));
-    assert_eq!(rt; post.send(b"more"), Put::Failed);
+    let mut met = None;
+    for door in &mut doors {
+        met = Some(meet(door));
+    }
+    let sent = (post.send(b"sent"), post.send(b"more"));
+    net.put_doors(doors);
     net.put_post(post);
-    assert_eq!(rt; net.post().is_some(), true);
+    let handed = handed_out(&mut net, alloc);
+    drop(net);
+    let (open, closed) = (Accepted::Open, Accepted::Closed);
+    assert_eq!(rt; met, Some((open, Got::Some(2), Put::Some(5), closed)));
+    assert_eq!(rt; sent, (Put::Some(4), Put::Failed));
+    assert_eq!(rt; handed, [1, 0, 1, 0, 1, 0]);
     Ok(())
 }
