@@ -20,6 +20,12 @@ pub fn help() -> &'static [u8]
   eb build DESC               show the SDB tables of that bus
   eb tour DESC                show what discovery finds on that bus, read through a
                               host and a slave
+  eb ls ADDRESS               show what discovery finds at ADDRESS, a host and a
+                              port, as localhost:60368
+  eb read ADDRESS WHERE       read the 32-bit word at WHERE there, or with
+                              WHERE/1, /2, /4 or /8 one of as many octets
+  eb write ADDRESS WHERE VALUE
+                              write VALUE there
   eb load START N             answer N cycles, at most 100000, made from START,
                               which is below 2147483648, on a RAM of 65536 octets
   eb --help                   show this text
@@ -27,7 +33,8 @@ pub fn help() -> &'static [u8]
 
 Replies and texts go to standard output. The status is 0, or with a line on
 standard error: 2 usage, 3 description refused, 4 read fault, 5 write fault,
-6 malformed, 7 truncated, 12 too long, 13 no memory, 14 script refused. The
+6 malformed, 7 truncated, 8 door fault, 9 a reply of the peer refused, 10 bus
+error, 11 walk refused, 12 too long, 13 no memory, 14 script refused. The
 endings of a replay stand in its output, and the first that is not clean gives
 the status, without a line.
 "
