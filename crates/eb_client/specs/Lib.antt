@@ -4,3 +4,4 @@ pub mod ClientLines
 pub mod PlainLink
 pub mod Asking
 pub mod Listed
+pub mod Tasks
