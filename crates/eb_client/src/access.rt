@@ -2,7 +2,6 @@
 ghost use Rattle.std.specs.Prelude.{◌≡◌, ◌≤◌, ◌<◌, ◌^◌, length, IfOk, Result, Ok};
 ghost use Rattle.eb_base.specs.declared.width.Width.TheVariants.{W8, W16, W32, W64};
 ghost use Rattle.eb_base.specs.Width.{octets};
-ghost use Rattle.eb_base.specs.Field.{octets_of};
 ghost use Rattle.eb_io.specs.Text.{line, hex_text};
 ghost use Rattle.eb_host.specs.declared.op.HostAnswer.{HostAnswer};
 ghost use Rattle.eb_host.specs.declared.op.HostFault.{HostFault};

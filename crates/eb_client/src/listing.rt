@@ -1,5 +1,5 @@
 //! Discovery over a link.
-ghost use Rattle.std.specs.Prelude.{◌≡◌, List, Result, Ok};
+ghost use Rattle.std.specs.Prelude.{◌≡◌, List, Result};
 ghost use Rattle.sdb_walk.specs.declared.found.Found.{Found};
 ghost use Rattle.sdb_walk.specs.declared.fault.WalkFault.{WalkFault};
 ghost use Rattle.eb_host.specs.declared.op.HostFault.{HostFault};

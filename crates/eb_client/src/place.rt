@@ -1,5 +1,5 @@
 // Reads the place of an access: its address, and its width.
-ghost use Rattle.std.specs.Prelude.{◌≡◌, ◌<◌, ◌+◌, ◌^◌, ◌%◌, nat_lt, nat_eq, ℕ, length, take, drop, MatchOption, IfSome};
+ghost use Rattle.std.specs.Prelude.{◌≡◌, ◌<◌, ◌+◌, ◌%◌, nat_eq, ℕ, length, take, drop, MatchOption, IfSome};
 ghost use Rattle.eb_base.specs.declared.width.Width.{Width};
 ghost use Rattle.eb_base.specs.Width.{octets};
 ghost use Rattle.eb_text.specs.Command.{Says};
