@@ -5,3 +5,4 @@ pub mod PlainLink
 pub mod Asking
 pub mod Listed
 pub mod Tasks
+pub mod RanClient
