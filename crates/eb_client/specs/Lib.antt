@@ -4,3 +4,5 @@ pub mod ClientLines
 pub mod PlainLink
 pub mod Asking
 pub mod Listed
+pub mod Tasks
+pub mod RanClient

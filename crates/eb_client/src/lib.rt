@@ -14,6 +14,8 @@
 //! - `asking`: one operation over a link
 //! - `access`: one word read or written over a link
 //! - `listing`: discovery over a link
+//! - `task`: a command over a link
+//! - `run`: the top call
 //! - `laws`: what holds of all words
 #![tactic(auto)]
 
@@ -27,9 +29,13 @@ mod listing;
 mod numbers;
 mod place;
 pub mod plain_link;
+mod run;
+mod task;
 
 pub use access::{read_over, write_over};
 pub use command::{ClientCommand, client_command_of};
 pub use fault::{ClientFault, WalkWhy};
 pub use lines::write_client_line;
 pub use listing::ls_over;
+pub use run::run_client;
+pub use task::client_over;
