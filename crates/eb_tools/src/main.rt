@@ -1,7 +1,9 @@
-//! The program `eb`: the words of the command line, the real files and the standard streams, and the status.
+//! The program `eb`: the words of the command line, the real files, sockets and standard streams, and the status.
 #![tactic(auto)]
 
+use eb_client::run_client;
 use eb_io::{RealWorld, Sink, WriteSink};
+use eb_net::RealNet;
 use eb_run::{Family, Fault, Status, family_of, run_plain, run_shared, write_line};
 use std::alloc::Global;
 use std::env;
@@ -31,10 +33,11 @@ fn main(rt: HostRuntime) -> ExitCode {
     let mut out = WriteSink::new(rt.stdout());
     let mut err = WriteSink::new(rt.stderr());
     let mut world = RealWorld::new(rt, alloc);
+    let mut net = RealNet::new(rt, alloc);
     let status = match words_of(rt, alloc) {
         Ok(words) => match family_of(&words) {
             Family::Plain => run_plain(alloc, &words, &mut world, &mut out, &mut err),
-            Family::Client => tell(&Fault::Usage, &mut err),
+            Family::Client => run_client(alloc, &words, &mut net, &mut out, &mut err),
             Family::Shared => run_shared(&rt, alloc, &words, &mut world, &mut out, &mut err),
         },
         Err(fault) => tell(&fault, &mut err),
