@@ -4,3 +4,5 @@ pub mod TaskLemmas
 pub mod AskingLemmas
 pub mod ShownLemmas
 pub mod ListedLemmas
+pub mod ClientStatusLemmas
+pub mod RanClientLemmas

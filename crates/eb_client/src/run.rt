@@ -2,7 +2,7 @@
 ghost use Rattle.std.specs.Prelude.{◌≡◌, IsSome, map, string_bytes};
 ghost use Rattle.eb_client.specs.ClientWords.{task_seen};
 ghost use Rattle.eb_client.specs.Tasks.{FitsTask};
-ghost use Rattle.eb_client.specs.RanClient.{client_run, client_status_for, dialled, CameClient, ClientComesTo, RunsThere, TaskComesTo, TellsClient};
+ghost use Rattle.eb_client.specs.RanClient.{client_run, client_status_for, dialled, ClientComesTo, RanClient, RunsThere, TaskComesTo, TellsClient};
 
 use crate::command::{ClientCommand, client_command_of};
 use crate::fault::ClientFault;
@@ -97,6 +97,10 @@ fn tell<E: Sink>(ran: &Result<(), ClientFault>, err: &mut E) -> Status
 ///
 /// The link that was dialled stands in the net afterwards, as the command left it. A fault in writing `err` changes no
 /// status.
+///
+/// The clause `ran` says of each status what was met and done (`ok`, `usage`, `no_task`, `door`, `read_fault`,
+/// `write_fault`, `peer`, `bus_error`, `walk`, `no_memory`), that there is no other (`listed`), what the net was asked
+/// for (`asked`), and what the words came to and standard error gets (`came`).
 pub fn run_client<N: Net, O: Sink, E: Sink>(
     alloc: Global,
     words: &[String],
@@ -104,7 +108,7 @@ pub fn run_client<N: Net, O: Sink, E: Sink>(
     out: &mut O,
     err: &mut E,
 ) -> Status
-    ensures came { CameClient (client_run N.Link.reading N.Link.writing (N.network net.old) (N.network net.new)
+    ensures ran { RanClient (client_run N.Link.reading N.Link.writing (N.network net.old) (N.network net.new)
         O.writing O.beside_writes out.old out.new) (E.writing err.old) (E.writing err.new)
         (map string_bytes words.now) result }
 {
