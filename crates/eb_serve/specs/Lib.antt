@@ -1,0 +1,5 @@
+pub mod Serves
+pub mod Seats
+pub mod Readied
+pub mod Text
+pub mod Unclean
