@@ -97,6 +97,9 @@ module _ (d : Description) (x : CrossbarState) (cs : List CycleView) (ps : List 
   long_owed : length x.owed ≡ length (states cs)
   long_owed = made.owed ∙ sym long_states
 
+  pub holders_now : (n : ℕ) → holders_from (states cs) 0 n ≡ holders_from core.ports 0 n
+  holders_now n = holders_shown (states cs) ps x.owed 0 n long_ports long_owed
+
   abbrev owed_to : ℕ → List Owed
   owed_to m = get_or x.owed m []
 
@@ -450,3 +453,11 @@ module _ (d : Description) (x : CrossbarState) (cs : List CycleView) (ps : List 
         where
           long_rows : length (driven_rows (states cs2) ps) ≡ length x.owed
           long_rows = driven_long (states cs2) ps (long_mid ∙ sym long_ports) ∙ long_ports ∙ sym long_owed
+
+      -- who holds what goes by the core's ports
+      pub tick_held : holders_from (bus_state d x3 cs2 ps3 arb2 j).core.ports 0 f.slaves ≡ holders_from (states cs2) 0 (length x.children)
+      tick_held =
+          let m = tick_made in
+          let long_cs : length (states cs2) ≡ d.masters = length-map cs2 (λ (p : CycleView). p.state) ∙ m.cycles in
+          sym (holders_shown (states cs2) ps3 x3.owed 0 f.slaves (m.ports ∙ sym long_cs) (m.owed ∙ sym long_cs))
+          ∙ ap (holders_from (states cs2) 0) (sym (ap (λ (children : List Child). length children) made.slaves))

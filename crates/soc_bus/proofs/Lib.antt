@@ -3,6 +3,7 @@ pub mod ServedLemmas
 pub mod CycleLists
 pub mod Joined
 pub mod ShownLemmas
+pub mod Nobody
 pub mod Holders
 pub mod Serving
 pub mod BusLemmas
