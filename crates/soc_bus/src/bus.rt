@@ -1,5 +1,6 @@
 //! The bus.
-ghost use Rattle.std.specs.Prelude.{IsTrue, ◌≡◌, ◌≢◌, ◌↔◌, ◌≤◌, ◌<◌, ◌^◌, ◌+◌, ℕ, length, take, replicate, [], false, IfOk, OnOk, OnErr, None, Some, slice_get};
+ghost use Rattle.std.specs.List.{list_all};
+ghost use Rattle.std.specs.Prelude.{IsTrue, ◌≡◌, ◌==◌, true, ◌≢◌, ◌↔◌, ◌≤◌, ◌<◌, ◌^◌, ◌+◌, ℕ, length, take, replicate, [], false, IfOk, OnOk, OnErr, None, Some, slice_get};
 ghost use Rattle.soc_desc.specs.Accepted.{IsAccepted};
 ghost use Rattle.wb_crossbar.specs.Grant.{IsGrant, IsNext};
 ghost use Rattle.wb_port.specs.Port.{idle_port as idle_engine};
@@ -241,10 +242,41 @@ impl<R: BusRecorder> Bus<R> {
         ensures tick { IsTick (fabric_of self.old.description) self.old.core self.new.core }
         ensures description { self.new.description ≡ self.old.description }
     {
-        if self.ports.len() == 1 {
-            self.tick_over(&mut [PortRow::none(); 1]); // the common case takes no room for 16
+        if self.is_quiet() {
+            self.grant();
         } else {
-            let ports = self.ports.len();
+            self.tick_ports();
+        }
+    }
+
+    /// Whether no port has a request or is owed an answer.
+    fn is_quiet(&self) -> bool
+        ensures quiet { result ≡ true → (m : ℕ) → pending (port self.now.core m) ≡ 0 }
+    {
+        all_done(&self.ports)
+    }
+
+    /// One tick in which nothing is requested or answered: the slaves stay as they are.
+    fn grant(&mut self)
+        requires quiet { (m : ℕ) → pending (port self.old.core m) ≡ 0 }
+        ensures keeps { KeepsLedger self.old self.new }
+        ensures tick { IsTick (fabric_of self.old.description) self.old.core self.new.core }
+        ensures description { self.new.description ≡ self.old.description }
+    {
+        let _grant = grant_all(&mut self.arbiter, &mut self.cycles);
+    }
+
+    /// One tick of a bus of any ports. Few ports, the common case, take no room for 16.
+    fn tick_ports(&mut self)
+        ensures keeps { KeepsLedger self.old self.new }
+        ensures tick { IsTick (fabric_of self.old.description) self.old.core self.new.core }
+        ensures description { self.new.description ≡ self.old.description }
+    {
+        let ports = self.ports.len();
+        if ports <= 2 {
+            let mut rows = [PortRow::none(); 2];
+            self.tick_over(&mut rows[..ports]);
+        } else {
             let mut rows = [PortRow::none(); 16];
             self.tick_over(&mut rows[..ports]);
         }
@@ -303,6 +335,13 @@ fn idle_ports(alloc: Global, count: u8, depth: u8) -> Result<Vec<Port>, NoMemory
         ports.push(Port::new(alloc, depth)?)?;
     }
     Ok(ports)
+}
+
+/// Whether each port has all answers to what it has loaded.
+fn all_done(ports: &[Port]) -> bool
+    ensures done { result ≡ list_all (λ p. length p.answers == length p.loaded) ports.now }
+{
+    ports.iter().all(|port| port.done())
 }
 
 /// Steps 1 and 2 of a tick: the ports that were released are idle, and the arbiter grants.
