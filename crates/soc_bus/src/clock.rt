@@ -18,7 +18,7 @@ use crate::cycle::Cycle;
 use crate::recorder::PairRecorder;
 use wb_crossbar::Crossbar;
 use wb_port::Port;
-use wb_signals::{Answer, Op, PortRow};
+use wb_signals::{Answer, PortRow};
 use wb_tree::Node;
 
 /// One clock, after the grants: what the ports drive, what the slaves make of it, and what the ports get.
@@ -78,29 +78,30 @@ fn has(set: u128, slave: usize) -> bool
     (set >> slave) & 1 == 1
 }
 
-/// The row of a port that drives this operation, or none.
-fn driving(cyc: bool, op: Option<Op>) -> PortRow
-    ensures row { result ≡ driving cyc op }
+/// The row of a port, in a cycle or not, that drives its next operation, or none.
+fn driving(cyc: bool, port: &Port) -> PortRow
+    ensures row { result ≡ driving cyc (driven port.now) }
     ensures operation { (r : Request) → asked result ≡ Some r → IsRequest r }
 {
-    match op {
-        Some(op) => PortRow {
-            cyc,
-            stb: true,
-            we: op.write,
-            adr: op.adr,
-            dat: op.dat,
-            sel: op.sel,
-            stall: false,
-            ack: false,
-            err: false,
-            rty: false,
-            read: 0,
-        },
-        None => PortRow {
+    if !port.drives() {
+        return PortRow {
             cyc,
             ..PortRow::none()
-        },
+        };
+    }
+    let op = port.head();
+    PortRow {
+        cyc,
+        stb: true,
+        we: op.write,
+        adr: op.adr,
+        dat: op.dat,
+        sel: op.sel,
+        stall: false,
+        ack: false,
+        err: false,
+        rty: false,
+        read: 0,
     }
 }
 
@@ -112,7 +113,7 @@ fn drive_all<P: PairRecorder>(cycles: &[Cycle<P>], ports: &[Port], rows: &mut [P
     ensures operations { AreOperations rows.new }
 {
     for m in 0..rows.len() {
-        rows[m] = driving(cycles[m].is_busy(), ports[m].drive());
+        rows[m] = driving(cycles[m].is_busy(), &ports[m]);
     }
 }
 

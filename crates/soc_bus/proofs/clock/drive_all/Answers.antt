@@ -25,5 +25,5 @@ loop-m-preserved g c =
     let cyc : c.is_busy.result ≡ busy (states c.args.cycles.now) c.loop-m.m =
     c.is_busy.ensures.busy ∙ ap (λ p. is_busy_phase p.phase) (sym (get_state c.args.cycles.now c.loop-m.m c.index-cycles-m.result in_cycles (c.index-cycles-m.is))) in
     drives (states c.args.cycles.now) c.args.ports.now c.loop-m.rows c.loop-m.m c.driving.result l c.loop-m.invariant
-    (c.driving.ensures.row ∙ ap (λ b. driving b c.drive.result) cyc ∙ ap (driving (busy (states c.args.cycles.now) c.loop-m.m)) (c.drive.ensures.driven ∙ ap driven (c.index-ports-m.is ∙ get_or_default c.args.ports.now c.loop-m.m c.index-ports-m.result no_port m)))
+    (c.driving.ensures.row ∙ ap (λ b. driving b (driven c.index-ports-m.result)) cyc ∙ ap (driving (busy (states c.args.cycles.now) c.loop-m.m)) (ap driven (c.index-ports-m.is ∙ get_or_default c.args.ports.now c.loop-m.m c.index-ports-m.result no_port m)))
     c.driving.ensures.operation
