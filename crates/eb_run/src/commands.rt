@@ -8,8 +8,8 @@ ghost use Rattle.eb_run.specs.declared.plain.Family.TheVariants.{Plain};
 
 use crate::files::read_description;
 use crate::load::load;
-use crate::sim::sim;
 use crate::port_slave::PortSlave;
+use crate::sim::sim;
 use crate::slave::PlainSlave;
 use crate::streams::answer_capture;
 use eb_base::Width;

@@ -51,6 +51,7 @@ nobody_waits cycles i past below m = by_case (cases_order m i)
     beyond h =
         ap (λ (p : CorePort). wants_of p.phase)
         (get_or_past (states cycles) m resting_port (let l = length-map cycles (λ (p : CycleView). p.state) in omega (arith, l, past, h)))
+
     by_case : (m ≡ i) ⊎ ((m < i) ⊎ (i < m)) → wanting (states cycles) m ≡ None
     by_case (inl e) = beyond (omega (arith, e))
     by_case (inr (inl l)) = below m l

@@ -18,9 +18,11 @@ tick-requires-clause-can g c =
     let cycles = states c.args.cycles.now in
     let n : length cycles ≡ length c.args.ports.now.items = length-map c.args.cycles.now (λ (p : CycleView). p.state) ∙ c.requires.cycles in
     let drove : c.drive_all.new.rows ≡ driven_rows cycles c.args.ports.now.items = c.drive_all.ensures.rows ∙ ap (driven_rows cycles) c.deref.ensures.value in
-    let holders = holders_from cycles 0 (length (crossbar_of node_slave s).children) in
-    (holders, can_tick s.width parts (contents_in parts) (map (owed_by parts) s.ports.items) holders c.requires.sound.owed.fits cycles c.args.ports.now.items c.drive_all.new.rows
-    c.requires.served n drove c.drive_all.ensures.operations)
+    let holders = holders_from cycles 0 (length (crossbar_of node_slave s).children) in (
+      holders,
+      can_tick s.width parts (contents_in parts) (map (owed_by parts) s.ports.items) holders c.requires.sound.owed.fits cycles c.args.ports.now.items c.drive_all.new.rows
+          c.requires.served n drove c.drive_all.ensures.operations,
+    )
 
 pub sample_all-requires-clause-passes : goal.sample_all-requires-clause-passes
 sample_all-requires-clause-passes g c = λ m p row f g.
