@@ -11,8 +11,12 @@ use Rattle.soc_core.specs.Core.{Stake}
 use Rattle.soc_bus.specs.Local.{all_slaves}
 use Rattle.soc_bus.specs.View.{BusState}
 use Rattle.soc_bus.proofs.LocalLemmas.{paired_some}
-use Rattle.eb_shared.specs.Shared.{no_stake, cycle_stake, stake_after, journal_after, made_by, stake_by, cycles_by, IsSameMaster, IsBetween, HasRecorded, IsRefused}
-use Rattle.eb_shared.proofs.TurnLemmas.{same_on}
+use Rattle.eb_shared.specs.declared.steps.Stage.{Stage}
+use Rattle.eb_shared.specs.declared.steps.Stage.TheVariants.{Raised, Loaded}
+use Rattle.eb_shared.specs.declared.steps.Reached.{Reached}
+use Rattle.eb_shared.specs.declared.steps.Reached.TheVariants.{Goes, Taken}
+use Rattle.eb_shared.specs.Shared.{no_stake, cycle_stake, stake_on, stake_after, journal_after, CameTo, made_by, stake_by, cycles_by, IsSameMaster, IsBetween, HasRecorded, IsRefused}
+use Rattle.eb_shared.proofs.TurnLemmas.{same_self}
 
 -- the cycles of a master after a record, by its last operation
 added : (m : ℕ) (made : List Entry) (opened pairs : List Pair) (last : Bool)
@@ -104,3 +108,36 @@ last_recorded p q xs none stake made = record {
   count = ap length none;
   cycles = λ i. record { made = (made ∙ ap (λ (ps : List Pair). made_with p.number false (made_by p) ps) (sym (append-nil (stake_by p).opened))) i; opened = (stake i).opened };
 }
+
+-- ---- the opening record of a cycle
+
+on_opened : (s : Stage) (set : ℕ) (pairs : List Pair) (ops : List Request) → (stake_on s set pairs ops).opened ≡ pairs
+on_opened Raised set pairs ops = refl
+on_opened Loaded set pairs ops = refl
+
+module _ (p : PassView BusState) (set : ℕ) (ops : List Request) (last : Bool) (some : ops ≢ []) (none : stake_by p ≡ no_stake)
+    (within : p.number < p.last.description.masters) (all : last ≡ false → set ≡ all_slaves (fabric_of p.last.description)) where
+  none_opened : (stake_by p).opened ≡ []
+  none_opened = ap (λ (s : Stake). s.opened) none
+
+  -- its answers were taken in the first turn
+  pub between_at_once : (reached : Reached) (r : PassView BusState) (xs : List Answer) → reached ≡ Taken → IsSameMaster p r
+      → CameTo reached p.number set ops last [] (made_by p) no_stake (stake_by r) (made_by r) xs → IsBetween (not last) set r
+  between_at_once reached r xs is same came =
+      let t : CameTo Taken p.number set ops last [] (made_by p) no_stake (stake_by r) (made_by r) xs =
+      subst (λ (h : Reached). CameTo h p.number set ops last [] (made_by p) no_stake (stake_by r) (made_by r) xs) is came in
+      between_after p p r set [] ops xs last (same_self p) same some t.0 (sym none_opened) none_opened refl
+      (t.1 ∙ ap (λ (ps : List Pair). stake_after set (ps ++ paired ops xs) last) (sym none_opened))
+      (t.2 ∙ ap (λ (ps : List Pair). journal_after p.number (made_by p) (ps ++ paired ops xs) last) (sym none_opened))
+      within all
+
+  -- they were taken in a later one
+  pub between_later : (reached : Reached) (stage : Stage) (q r : PassView BusState) (ys xs : List Answer) → reached ≡ Goes stage → IsSameMaster p q
+      → CameTo reached p.number set ops last [] (made_by p) no_stake (stake_by q) (made_by q) ys → IsSameMaster q r → length xs ≡ length ops
+      → stake_by r ≡ stake_after set ((stake_by q).opened ++ paired ops xs) last → made_by r ≡ journal_after q.number (made_by q) ((stake_by q).opened ++ paired ops xs) last
+      → IsBetween (not last) set r
+  between_later reached stage q r ys xs is to came on count stake made =
+      let t : CameTo (Goes stage) p.number set ops last [] (made_by p) no_stake (stake_by q) (made_by q) ys =
+      subst (λ (h : Reached). CameTo h p.number set ops last [] (made_by p) no_stake (stake_by q) (made_by q) ys) is came in
+      between_after p q r set [] ops xs last to on some count (sym none_opened) (ap (λ (s : Stake). s.opened) t.0 ∙ on_opened stage set [] ops) t.1 stake made
+      within all

@@ -12,7 +12,9 @@ use Rattle.soc_turn.specs.Views.{PassView}
 use Rattle.soc_core.specs.Core.{Stake, stake}
 use Rattle.soc_bus.specs.View.{BusState}
 use Rattle.soc_bus.specs.Ledger.{Charter, history_of, stake_in, charter_of, AddsOwn}
-use Rattle.eb_shared.specs.Shared.{made_by, stake_by, journal_after, IsSameMaster}
+use Rattle.eb_shared.specs.declared.steps.Reached.{Reached}
+use Rattle.eb_shared.specs.declared.steps.Reached.TheVariants.{Goes, Taken, Refused}
+use Rattle.eb_shared.specs.Shared.{no_stake, cycle_stake, made_by, stake_by, journal_after, CameTo, IsSameMaster}
 
 -- what one may find when it takes the bus
 abbrev Finds : ℕ → BusState → BusState → Type 0
@@ -58,9 +60,37 @@ ended_made p q x y cut number last found journal =
     (λ i. own (number i) (last i).core.journal) ∙ ap (own p.number) journal ∙ own_ended p.number cut x.core.journal (stake x.core p.number).opened
     ∙ (λ i. made_with p.number cut (found.1 i) (found.2 i).opened)
 
-pub after_made : (p q : PassView BusState) (x y : BusState) (ops : List Request) (xs : List Answer) (end : Bool) → q.number ≡ p.number → q.last ≡ y → Finds p.number p.last x
-    → y.core.journal ≡ journal_after p.number x.core.journal ((stake x.core p.number).opened ++ paired ops xs) end
-    → made_by q ≡ journal_after p.number (made_by p) ((stake_by p).opened ++ paired ops xs) end
-after_made p q x y ops xs end number last found journal =
-    (λ i. own (number i) (last i).core.journal) ∙ ap (own p.number) journal ∙ own_after p.number x.core.journal ((stake x.core p.number).opened ++ paired ops xs) end
-    ∙ (λ i. journal_after p.number (found.1 i) ((found.2 i).opened ++ paired ops xs) end)
+-- what a turn of a record came to, by its master's pass
+pub came_by : (r : Reached) (p q : PassView BusState) (x y : BusState) (set : ℕ) (ops : List Request) (last : Bool) (pairs : List Pair) (refused : Stake) (xs : List Answer)
+    → q.number ≡ p.number → q.last ≡ y → Finds p.number p.last x
+    → CameTo r p.number set ops last pairs x.core.journal refused (stake y.core p.number) y.core.journal xs
+    → CameTo r p.number set ops last pairs (made_by p) refused (stake_by q) (made_by q) xs
+came_by (Goes stage) p q x y set ops last pairs refused xs number at found came =
+    ((λ i. stake (at i).core (number i)) ∙ came.0, (λ i. own (number i) (at i).core.journal) ∙ ap (own p.number) came.1 ∙ found.1)
+came_by Taken p q x y set ops last pairs refused xs number at found came = (
+  came.0,
+  (λ i. stake (at i).core (number i)) ∙ came.1,
+  (λ i. own (number i) (at i).core.journal) ∙ ap (own p.number) came.2 ∙ own_after p.number x.core.journal (pairs ++ paired ops xs) last
+      ∙ (λ i. journal_after p.number (found.1 i) (pairs ++ paired ops xs) last),
+)
+came_by Refused p q x y set ops last pairs refused xs number at found came =
+    ((λ i. stake (at i).core (number i)) ∙ came.0, (λ i. own (number i) (at i).core.journal) ∙ ap (own p.number) came.1 ∙ found.1)
+
+-- the first turn of a cycle
+pub first_came : (r : Reached) (p q : PassView BusState) (x y : BusState) (m set : ℕ) (ops : List Request) (last : Bool) (xs : List Answer)
+    → m ≡ p.number → q.number ≡ p.number → q.last ≡ y → Finds p.number p.last x
+    → CameTo r m set ops last [] x.core.journal no_stake (stake y.core m) y.core.journal xs
+    → CameTo r p.number set ops last [] (made_by p) no_stake (stake_by q) (made_by q) xs
+first_came r p q x y m set ops last xs is number at found came =
+    came_by r p q x y set ops last [] no_stake xs number at found
+    (subst (λ (k : ℕ). CameTo r k set ops last [] x.core.journal no_stake (stake y.core k) y.core.journal xs) is came)
+
+-- a later one
+pub next_came : (r : Reached) (p q : PassView BusState) (x y : BusState) (m set : ℕ) (ops : List Request) (last : Bool) (xs : List Answer)
+    → m ≡ p.number → q.number ≡ p.number → q.last ≡ y → Finds p.number p.last x
+    → CameTo r m set ops last (stake x.core m).opened x.core.journal (cycle_stake set (stake x.core m).opened []) (stake y.core m) y.core.journal xs
+    → CameTo r p.number set ops last (stake_by p).opened (made_by p) (cycle_stake set (stake_by p).opened []) (stake_by q) (made_by q) xs
+next_came r p q x y m set ops last xs is number at found came =
+    came_by r p q x y set ops last (stake_by p).opened (cycle_stake set (stake_by p).opened []) xs number at found
+    (subst (λ (s : Stake). CameTo r p.number set ops last s.opened x.core.journal (cycle_stake set s.opened []) (stake y.core p.number) y.core.journal xs) found.2
+    (subst (λ (k : ℕ). CameTo r k set ops last (stake x.core k).opened x.core.journal (cycle_stake set (stake x.core k).opened []) (stake y.core k) y.core.journal xs) is came))

@@ -13,8 +13,10 @@ use Rattle.soc_core.specs.Built.{fabric_of, set_of_cycle}
 use Rattle.soc_core.specs.Core.{Stake, stake}
 use Rattle.soc_bus.specs.Local.{all_slaves}
 use Rattle.soc_bus.specs.View.{BusState}
-use Rattle.eb_shared.specs.declared.steps.Asked.{Asked}
-use Rattle.eb_shared.specs.declared.steps.Asked.TheVariants as asked
+use Rattle.eb_shared.specs.declared.steps.Stage.{Stage}
+use Rattle.eb_shared.specs.declared.steps.Stage.TheVariants as stage
+use Rattle.eb_shared.specs.declared.steps.Reached.{Reached}
+use Rattle.eb_shared.specs.declared.steps.Reached.TheVariants as reached
 
 -- The stake of a master without a cycle.
 abbrev pub no_stake : Stake
@@ -34,11 +36,24 @@ abbrev pub journal_after : ℕ → List Entry → List Pair → Bool → List En
 journal_after m journal pairs true = made_with m false journal pairs
 journal_after m journal pairs false = journal
 
--- What a turn to load operations came to: they are loaded, or nothing has changed.
-abbrev pub WentOn : Asked → ℕ → List Request → Stake → Stake → Type 0
-WentOn asked.Loaded set ops old new = new ≡ cycle_stake set old.opened ops
-WentOn asked.Waits set ops old new = new ≡ old
-WentOn asked.Refused set ops old new = new ≡ old
+-- The stake of a master whose record goes on from there.
+abbrev pub stake_on : Stage → ℕ → List Pair → List Request → Stake
+stake_on stage.Raised set pairs ops = cycle_stake set pairs []
+stake_on stage.Loaded set pairs ops = cycle_stake set pairs ops
+
+-- What a turn of a record came to, with these pairs of its cycle and this journal before the record, and what the stake
+-- is where it is refused. The stake, the journal and the answers after it are the last three.
+abbrev pub CameTo : Reached → ℕ → ℕ → List Request → Bool → List Pair → List Entry → Stake → Stake → List Entry → List Answer → Type 0
+CameTo (reached.Goes stage) m set ops last pairs journal refused stake now answers = (stake ≡ stake_on stage set pairs ops) × (now ≡ journal)
+CameTo reached.Taken m set ops last pairs journal refused stake now answers =
+    (length answers ≡ length ops) × (stake ≡ stake_after set (pairs ++ paired ops answers) last) × (now ≡ journal_after m journal (pairs ++ paired ops answers) last)
+CameTo reached.Refused m set ops last pairs journal refused stake now answers = (stake ≡ refused) × (now ≡ journal)
+
+-- This holds, if the record goes on.
+abbrev pub IfGoes : Reached → Type 0 → Type 0
+IfGoes (reached.Goes stage) holds = holds
+IfGoes reached.Taken holds = Unit {0}
+IfGoes reached.Refused holds = Unit {0}
 
 -- The set of a cycle, which these operations may go in: the one of its opening record, or all top slaves.
 abbrev pub IsSetFor : Fabric → ℕ → List Request → Type 0

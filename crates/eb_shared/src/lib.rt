@@ -30,4 +30,4 @@ pub use gathering::gather;
 pub use lanes::{Lane, serve_links};
 pub use passes::new_pass;
 pub use shared::SharedMaster;
-pub use steps::{Asked, SharedBus};
+pub use steps::{Reached, SharedBus, Stage};

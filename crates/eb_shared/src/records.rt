@@ -4,8 +4,8 @@ ghost use Rattle.eb_base.specs.declared.width.Width.TheVariants.{W32};
 ghost use Rattle.wb_signals.specs.Cycles.{AllFitBus, CanRecord, cycle_ended};
 ghost use Rattle.eb_shared.specs.Shared.{cycles_by, stake_by, IsSameMaster, IsBetween, HasRecorded, IsRefused};
 
-use crate::steps::SharedBus;
-use crate::turns::{Part, collect_when_answered, load_when_granted, raise_turn, release_turn};
+use crate::steps::{Part, Reached, SharedBus, Stage, Way};
+use crate::turns::{first_turn, release_turn, turns_to_end};
 use soc_turn::{Pass, Turn};
 use std::sync::Wait;
 use wb_signals::{Answer, SlaveSet};
@@ -39,19 +39,19 @@ fn first_record<R: Wait>(
     ensures refused { result.2 ≡ false → IsRefused pass result.0 }
     ensures idle { result.2 ≡ false → IsBetween false result.1.0 result.0 }
 {
-    let (pass, set, raised) = raise_turn(rt, turn, pass, part.ops, part.last);
-    if !raised {
-        return (pass, set, false);
+    let (pass, set, reached) = first_turn(rt, turn, pass, part, answers);
+    match reached {
+        Reached::Goes(stage) => {
+            let way = Way { set, stage };
+            let (pass, done) = turns_to_end(rt, turn, pass, way, part, answers);
+            if !done {
+                return (release_turn(rt, turn, pass, set, false), set, false);
+            }
+            (pass, set, true)
+        }
+        Reached::Taken => (pass, set, true),
+        Reached::Refused => (pass, set, false),
     }
-    let (pass, loaded) = load_when_granted(rt, turn, pass, set, part.ops);
-    if !loaded {
-        return (release_turn(rt, turn, pass, set, false), set, false);
-    }
-    (
-        collect_when_answered(rt, turn, pass, set, part, answers),
-        set,
-        true,
-    )
 }
 
 /// A later record of a cycle.
@@ -77,14 +77,8 @@ fn later_record<R: Wait>(
     ensures refused { result.1 ≡ false → IsRefused pass result.0 }
     ensures goes_on { result.1 ≡ false → IsBetween true set.0 result.0 }
 {
-    let (pass, loaded) = load_when_granted(rt, turn, pass, set, part.ops);
-    if !loaded {
-        return (pass, false);
-    }
-    (
-        collect_when_answered(rt, turn, pass, set, part, answers),
-        true,
-    )
+    let stage = Stage::Raised;
+    turns_to_end(rt, turn, pass, Way { set, stage }, part, answers)
 }
 
 /// Ends a cycle by a record without operations.

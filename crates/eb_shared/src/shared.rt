@@ -4,8 +4,7 @@ ghost use Rattle.std.specs.Option.{ForSome};
 ghost use Rattle.eb_shared.specs.Shared.{no_stake, stake_by, cycles_told, IsBetween};
 
 use crate::records::{Standing, cut_on, record_on};
-use crate::steps::SharedBus;
-use crate::turns::Part;
+use crate::steps::{Part, SharedBus};
 use eb_base::NoMemory;
 use soc_turn::{Pass, Turn};
 use std::alloc::Global;

@@ -9,10 +9,15 @@ use crate::ledger::Ledgered;
 use crate::plays::{Board, Draw, Give, Look, Place, Publish};
 use atomic_table::{Refused, Table};
 use std::alloc::{AllocFailed, Global};
+use std::hint::spin_loop;
 use std::marker::Model;
 use std::snapshot::Snapshot;
 use std::sync::Wait;
 use std::thread::yield_now;
+
+/// How often the master that is next looks again at once. A turn mostly takes no longer, and a thread that has yielded
+/// comes back late.
+const LOOKS: u8 = 200;
 
 /// A value that threads take in turns. Contracts see which turn it is, by its table.
 ///
@@ -103,6 +108,16 @@ impl<T: Ledgered> Model for Held<T> {
     ghost view = { λ h. record { turn = h.seat.table_id; number = h.number; taken = taken_of h.seat.me h.holds } };
 }
 
+/// Rests between two looks of a master that so many turns are before, and counts the looks that it took as the next.
+fn rest(before: u64, looks: u8) -> u8 {
+    if before == 1 && looks < LOOKS {
+        spin_loop();
+        return looks + 1;
+    }
+    yield_now();
+    looks
+}
+
 impl<T: Ledgered> Turn<T> {
     /// The turn of a value, for 1 to 16 masters, and its root, by which no pass is made yet.
     ///
@@ -151,7 +166,8 @@ impl<T: Ledgered> Turn<T> {
         Pass { number, seat }
     }
 
-    /// Waits for the pass's turn, and takes the value. It yields to the other threads between two looks.
+    /// Waits for the pass's turn, and takes the value. It yields to the other threads between two looks, except that it
+    /// looks again at once, for some microseconds, when it is the next.
     ///
     /// The value's history extends what the pass has seen by entries of others, and the pass's stake and the charter
     /// are as it has seen them. The pass has become the hold, by which the value is put back.
@@ -163,13 +179,14 @@ impl<T: Ledgered> Turn<T> {
         let Pass { number, mut seat } = pass;
         let shared = &self.table.shared;
         let ticket = shared.fetch_add::<Draw>(&mut seat, 0, 1);
+        let mut looks = 0;
         for _ in rt.forever() {
             let served = shared.load::<Look>(&mut seat, 1);
             if served == ticket {
                 let value = shared.exchange(&mut seat, 0, None).unwrap();
                 return (Held { number, seat }, value);
             }
-            yield_now();
+            looks = rest(ticket.wrapping_sub(served), looks);
         }
         unreachable!()
     }
