@@ -1,10 +1,10 @@
 -- Doors that are made one after another.
-use Rattle.std.proofs.Common.{◌≡◌, ℕ, zero, suc, ◌+◌, ◌<◌, List, [], ◌∷◌, ◌++◌, length, Result, Ok, Err, inl, inr, refl, sym, ◌∙◌, ap, subst, arith, length-append, append_assoc}
-use Rattle.std.specs.Prelude.{⊤, All}
+use Rattle.std.proofs.Common.{◌≡◌, ℕ, zero, suc, ◌+◌, ◌<◌, List, [], ◌∷◌, ◌++◌, inl, inr, refl, sym, ◌∙◌, ap, arith, length-append, append_assoc}
+use Rattle.std.specs.Prelude.{All}
 use Rattle.std.proofs.lemmas.List.{append-nil}
 use Rattle.std.proofs.lemmas.List.Elements.{All-append, All-cons}
 use Rattle.eb_net.specs.Accepting.{DoorState}
-use Rattle.eb_net.specs.Network.{Network, Wanted, door_at, asking, IsNewDoor, DoorMade, DoorFailed}
+use Rattle.eb_net.specs.Network.{Network, Wanted, door_at, asking, IsNewDoor, DoorMade}
 use Rattle.eb_serving.specs.declared.fault.ServingFault.{ServingFault}
 use Rattle.eb_serving.specs.Doors.{doors_at, MadeDoors, NoDoorMade, StopsAtDoor}
 

@@ -1,5 +1,5 @@
 -- What the result of a server says of its status.
-use Rattle.std.proofs.Common.{◌≡◌, ◌≢◌, ◌⊎◌, inl, inr, ℕ, ◌+◌, ◌<◌, List, [], ◌∷◌, ◌++◌, Option, Some, None, Bool, true, false, Result, Ok, Err, refl, sym, ◌∙◌, ap, subst}
+use Rattle.std.proofs.Common.{◌≡◌, ◌⊎◌, inl, inr, ℕ, List, [], ◌∷◌, ◌++◌, Option, Some, None, Bool, true, false, Result, Ok, Err, sym, ◌∙◌, ap, subst}
 use Rattle.std.specs.Prelude.{⊤}
 use Rattle.std.proofs.lemmas.List.{append-nil}
 use Rattle.eb_io.specs.Reading.{Reading}
@@ -7,7 +7,6 @@ use Rattle.eb_io.specs.Writing.{Writing}
 use Rattle.eb_io.specs.Outside.{Outside}
 use Rattle.eb_io.specs.declared.sink.WriteFault.{WriteFault}
 use Rattle.soc_desc.specs.declared.description.Description.{Description}
-use Rattle.soc_desc.specs.declared.fault.DescFault.{DescFault}
 use Rattle.eb_net.specs.Network.{Network}
 use Rattle.eb_server.specs.declared.ending.Ending.{Ending}
 use Rattle.eb_server.specs.declared.ending.Ending.TheVariants as ending
@@ -22,8 +21,8 @@ use Rattle.eb_text.specs.declared.fault.Fault.TheVariants as fault
 use Rattle.eb_run.specs.Files.{IsDescribed, ReadsDescription}
 use Rattle.eb_serving.specs.declared.fault.ServingFault.{ServingFault}
 use Rattle.eb_serving.specs.declared.fault.ServingFault.TheVariants as serving
-use Rattle.eb_serving.specs.ServingWords.{ServingAsk, ServingTask, PortsTask, IsServing, IsNoServing}
-use Rattle.eb_serving.specs.RanServing.{PortRun, ServingRun, LeavesPorts, served_answer, TellsServed, ServesPorts, ServingComesTo, ServingWordsComeTo, serving_status_for, door_status, TellsServing, CameServing, CameServingBy, HasNoPorts, asked_for, RanServing}
+use Rattle.eb_serving.specs.ServingWords.{ServingAsk, ServingTask, PortsTask, IsServingTask, IsNoServing}
+use Rattle.eb_serving.specs.RanServing.{ServingRun, LeavesPorts, served_answer, ServesPorts, ServingComesTo, ServingWordsComeTo, serving_status_for, door_status, TellsServing, CameServing, CameServingBy, HasNoPorts, asked_for, RanServing}
 use Rattle.eb_serving.proofs.AskLemmas.{one_serving}
 use Rattle.eb_serving.proofs.DoorLemmas.{stopped_asked}
 use Rattle.eb_serving.proofs.ServingStatusLemmas.{Has, MayShare, MayTell, MayCome, Known, known, known_usage, IsOther}
@@ -79,7 +78,7 @@ abbrev Comes : {F D P L : Type 0} → ServingRun F D P L → List (List ℕ) →
 Comes run words r = MayCome r ⊎ ((r ≡ Err (serving.Common fault.Usage)) × HasNoPorts run words)
 
 module _ {F D P L : Type 0} (run : ServingRun F D P L) (words : List (List ℕ)) (ask : ServingAsk) (r : Result (Option Unclean) ServingFault) where
-  comes_served : (is_serving : IsServing words (PortsTask ask)) (d : Description) → ReadsDescription run.reading run.world run.world' ask.description (Ok d) → ServesPorts run.ports d ask r → Comes run words r
+  comes_served : (is_serving : IsServingTask words (PortsTask ask)) (d : Description) → ReadsDescription run.reading run.world run.world' ask.description (Ok d) → ServesPorts run.ports d ask r → Comes run words r
   comes_served is_serving d read (inl (is, beyond, leaves)) =
       inr (is, record { ask = ask; is_serving = is_serving; d = d; read = read; beyond = beyond; leaves = leaves })
   comes_served is_serving d read (inr (inl (enough, f, is, stops, out))) = elim stops.stopped [
@@ -91,11 +90,11 @@ module _ {F D P L : Type 0} (run : ServingRun F D P L) (words : List (List ℕ))
     | inr (ran, serves, tells) ↦ inl (subst MayCome (sym tells.2) (may_answer (first_unclean_port ran.ports) tells.0 (may_first ran.ports)))
   ]
 
-  comes_ports : (is_serving : IsServing words (PortsTask ask)) → ServingComesTo run (PortsTask ask) r → Comes run words r
+  comes_ports : (is_serving : IsServingTask words (PortsTask ask)) → ServingComesTo run (PortsTask ask) r → Comes run words r
   comes_ports is_serving (inl (f, is, reads, leaves)) = inl (subst MayCome (sym is) (may_read run.reading run.world run.world' ask.description f reads))
   comes_ports is_serving (inr (d, read, serves)) = comes_served is_serving d read serves
 
-comes_of : {F D P L : Type 0} (run : ServingRun F D P L) (words : List (List ℕ)) (task : ServingTask) (r : Result (Option Unclean) ServingFault) → IsServing words task → ServingComesTo run task r → Comes run words r
+comes_of : {F D P L : Type 0} (run : ServingRun F D P L) (words : List (List ℕ)) (task : ServingTask) (r : Result (Option Unclean) ServingFault) → IsServingTask words task → ServingComesTo run task r → Comes run words r
 comes_of run words (PortsTask ask) r is_serving comes = comes_ports run words ask r is_serving comes
 
 -- ---- what was asked for
@@ -167,7 +166,7 @@ module _ {F D P L : Type 0} (run : ServingRun F D P L) (err err' : Writing) (wor
     | inr (task, is_serving, comes) ↦ absurd (none task is_serving)
   ]
 
-  asked : (task : ServingTask) → IsServing words task → Asks run task
+  asked : (task : ServingTask) → IsServingTask words task → Asks run task
   asked task is_serving = elim come [
     | inl refused ↦ absurd (refused.1 task is_serving)
     | inr (other, is_other, comes) ↦

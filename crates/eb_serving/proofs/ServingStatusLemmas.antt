@@ -4,7 +4,6 @@ use Rattle.std.specs.Prelude.{Contains}
 use Rattle.eb_codec.specs.declared.item.Why.{Why}
 use Rattle.soc_desc.specs.declared.fault.DescFault.{DescFault}
 use Rattle.soc_desc.specs.declared.fault.DescFault.TheVariants as desc
-use Rattle.eb_server.specs.declared.ending.Ending.{Ending}
 use Rattle.eb_server.specs.declared.ending.Ending.TheVariants as ending
 use Rattle.eb_serve.specs.declared.unclean.Unclean.{Unclean}
 use Rattle.eb_serve.specs.declared.unclean.Unclean.TheVariants as unclean

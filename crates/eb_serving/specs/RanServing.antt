@@ -9,7 +9,6 @@ use Rattle.soc_desc.specs.declared.description.Description.{Description}
 use Rattle.soc_desc.specs.declared.fault.DescFault.{DescFault}
 use Rattle.eb_net.specs.Accepting.{DoorState}
 use Rattle.eb_net.specs.Network.{Network, Wanted}
-use Rattle.eb_server.specs.declared.ending.Ending.{Ending}
 use Rattle.eb_server.specs.declared.ending.Ending.TheVariants as ending
 use Rattle.eb_serve.specs.Serves.{ServeState, Serves}
 use Rattle.eb_serve.specs.Text.{serve_text}
@@ -24,7 +23,7 @@ use Rattle.eb_run.specs.Files.{ReadsDescription}
 use Rattle.eb_run.specs.Top.{ending_status}
 use Rattle.eb_serving.specs.declared.fault.ServingFault.{ServingFault}
 use Rattle.eb_serving.specs.declared.fault.ServingFault.TheVariants as serving
-use Rattle.eb_serving.specs.ServingWords.{ServingAsk, ServingTask, PortsTask, IsServing, IsNoServing}
+use Rattle.eb_serving.specs.ServingWords.{ServingAsk, ServingTask, PortsTask, IsServingTask, IsNoServing}
 use Rattle.eb_serving.specs.ServingLines.{serving_status, serving_line}
 use Rattle.eb_serving.specs.Doors.{doors_at, MadeDoors, StopsAtDoor}
 
@@ -94,7 +93,7 @@ ServingComesTo run (PortsTask ask) result =
 abbrev pub ServingWordsComeTo : {F D P L : Type 0} → ServingRun F D P L → List (List ℕ) → Result (Option Unclean) ServingFault → Type 0
 ServingWordsComeTo run words result =
     ((result ≡ Err (serving.Common fault.Usage)) × IsNoServing words × (run.world' ≡ run.world) × LeavesPorts run.ports)
-    ⊎ ((task : ServingTask) × IsServing words task × ServingComesTo run task result)
+    ⊎ ((task : ServingTask) × IsServingTask words task × ServingComesTo run task result)
 
 -- ---- the status, and standard error
 
@@ -120,7 +119,7 @@ TellsServing err err' (Err f) = (wrote : Result ⊤ WriteFault) × WritesAll err
 -- The words are a task, it came to this, and standard error tells that.
 pub record CameServing {F D P L : Type 0} (run : ServingRun F D P L) (err err' : Writing) (words : List (List ℕ)) (result : Result (Option Unclean) ServingFault) : Type 0 where
   pub task : ServingTask
-  pub is_serving : IsServing words task
+  pub is_serving : IsServingTask words task
   pub comes_to : ServingComesTo run task result
   pub tells : TellsServing err err' result
 
@@ -132,7 +131,7 @@ CameServingBy run err err' words f u = CameServing run err err' words (Err f) �
 -- was touched.
 pub record HasNoPorts {F D P L : Type 0} (run : ServingRun F D P L) (words : List (List ℕ)) : Type 0 where
   pub ask : ServingAsk
-  pub is_serving : IsServing words (PortsTask ask)
+  pub is_serving : IsServingTask words (PortsTask ask)
   pub d : Description
   pub read : ReadsDescription run.reading run.world run.world' ask.description (Ok d)
   pub beyond : 65536 < ask.port + d.masters
@@ -176,7 +175,7 @@ pub record RanServing {F D P L : Type 0} (run : ServingRun F D P L) (err err' : 
   -- There is no other status.
   pub listed : Contains (0 ∷ 2 ∷ 3 ∷ 4 ∷ 5 ∷ 6 ∷ 7 ∷ 8 ∷ 12 ∷ 13 ∷ []) ended.0
   -- The net was asked for doors at the ports of the task, from the first on, in order, and for nothing else.
-  pub asked : (task : ServingTask) → IsServing words task → (n : ℕ) × (run.ports.net'.asked ≡ run.ports.net.asked ++ asked_for task n)
+  pub asked : (task : ServingTask) → IsServingTask words task → (n : ℕ) × (run.ports.net'.asked ≡ run.ports.net.asked ++ asked_for task n)
   -- What the words came to; the status is of that, and standard error gets the line of its fault, all of it unless a write there
   -- fails, and nothing where there is none or the output tells how the streams ended.
   pub came : EndedServing run err err' words ended

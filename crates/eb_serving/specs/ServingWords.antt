@@ -27,16 +27,16 @@ pub record AreAsk (first : List ℕ) (words : List (List ℕ)) (ask : ServingAsk
   pub most_count : ask.count ≤ 10000
 
 -- The words are exactly those of this task: `serve DESC PORT CONNECTIONS`.
-abbrev pub IsServing : List (List ℕ) → ServingTask → Type 0
-IsServing words (PortsTask ask) = AreAsk (codes "serve") words ask
+abbrev pub IsServingTask : List (List ℕ) → ServingTask → Type 0
+IsServingTask words (PortsTask ask) = AreAsk (codes "serve") words ask
 
 -- No task of a server has these words.
 abbrev pub IsNoServing : List (List ℕ) → Type 0
-IsNoServing words = (task : ServingTask) → IsServing words task → ⊥
+IsNoServing words = (task : ServingTask) → IsServingTask words task → ⊥
 
 -- Words have one task of a server at most.
 abbrev pub OneServing : Type 0
-OneServing = (words : List (List ℕ)) (task other : ServingTask) → IsServing words task → IsServing words other → task ≡ other
+OneServing = (words : List (List ℕ)) (task other : ServingTask) → IsServingTask words task → IsServingTask words other → task ≡ other
 
 -- what was read from words
 abbrev pub ask_seen : Asked → ServingAsk

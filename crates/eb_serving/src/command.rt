@@ -1,6 +1,6 @@
 //! The commands of a server, read from their words.
 ghost use Rattle.std.specs.Prelude.{◌≡◌, map, MatchOption, string_bytes};
-ghost use Rattle.eb_serving.specs.ServingWords.{AreAsk, ServingAsk, PortsTask, IsServing, IsNoServing, ask_seen};
+ghost use Rattle.eb_serving.specs.ServingWords.{AreAsk, ServingAsk, PortsTask, IsServingTask, IsNoServing, ask_seen};
 
 use crate::numbers::number_to;
 
@@ -48,7 +48,7 @@ fn asked_of<'a>(words: &'a [String], word: &str) -> Option<Asked<'a>>
 /// What the words `serve DESC PORT CONNECTIONS` ask for; none where they are other words.
 pub fn serving_of(words: &[String]) -> Option<Asked<'_>>
     ensures command { MatchOption result (IsNoServing (map string_bytes words.now))
-        (λ x. IsServing (map string_bytes words.now) (PortsTask (ask_seen x))) }
+        (λ x. IsServingTask (map string_bytes words.now) (PortsTask (ask_seen x))) }
 {
     asked_of(words, "serve")
 }

@@ -25,7 +25,8 @@ use std::thread::Threads;
 // How many ports there are, with the port 0.
 const PORTS: u32 = 65_536;
 
-// What a command answers that tells what first didn't end clean. A failed write is the answer only where all ended clean.
+// What a command answers that tells what first didn't end clean. A failed write is the answer only where all ended
+// clean.
 fn answer_of(
     first: Option<Unclean>,
     wrote: Result<(), WriteFault>,

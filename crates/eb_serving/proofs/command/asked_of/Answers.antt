@@ -1,4 +1,4 @@
-use Rattle.std.proofs.Common.{◌≡◌, ◌≢◌, [], ◌∷◌, map, arith, rules, codes, string_bytes, sym, ◌∙◌, ap}
+use Rattle.std.proofs.Common.{◌≡◌, ◌≢◌, [], ◌∷◌, map, arith, rules, string_bytes, sym, ◌∙◌, ap}
 use Rattle.eb_text.proofs.ItemLemmas.{four_items}
 use Rattle.eb_serving.proofs.AskLemmas.{not_first, no_port, no_count}
 use Rattle.eb_serving.proofs.command.asked_of.Goals as goal

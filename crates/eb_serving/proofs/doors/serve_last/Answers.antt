@@ -1,4 +1,3 @@
-use Rattle.std.proofs.Common.{sym, ◌∙◌}
 use Rattle.eb_ports.specs.Connections.{door_told}
 use Rattle.eb_serving.proofs.ServedLemmas.{unserved_last}
 use Rattle.eb_serving.proofs.doors.serve_last.Goals as goal
