@@ -5,6 +5,7 @@ use eb_client::run_client;
 use eb_io::{RealWorld, Sink, WriteSink};
 use eb_net::RealNet;
 use eb_run::{Family, Fault, Status, family_of, run_plain, run_shared, write_line};
+use eb_serving::{Around, run_serving};
 use std::alloc::Global;
 use std::env;
 use std::io::{self, ErrorKind};
@@ -32,13 +33,18 @@ fn main(rt: HostRuntime) -> ExitCode {
     let alloc = rt.alloc();
     let mut out = WriteSink::new(rt.stdout());
     let mut err = WriteSink::new(rt.stderr());
-    let mut world = RealWorld::new(rt, alloc);
-    let mut net = RealNet::new(rt, alloc);
+    let mut around = Around {
+        world: RealWorld::new(rt, alloc),
+        net: RealNet::new(rt, alloc),
+    };
     let status = match words_of(rt, alloc) {
         Ok(words) => match family_of(&words) {
-            Family::Plain => run_plain(alloc, &words, &mut world, &mut out, &mut err),
-            Family::Client => run_client(alloc, &words, &mut net, &mut out, &mut err),
-            Family::Shared => run_shared(&rt, alloc, &words, &mut world, &mut out, &mut err),
+            Family::Plain => run_plain(alloc, &words, &mut around.world, &mut out, &mut err),
+            Family::Client => run_client(alloc, &words, &mut around.net, &mut out, &mut err),
+            Family::Shared => {
+                run_shared(&rt, alloc, &words, &mut around.world, &mut out, &mut err)
+            }
+            Family::Serving => run_serving(&rt, alloc, &words, &mut around, &mut out, &mut err),
         },
         Err(fault) => tell(&fault, &mut err),
     };

@@ -1,0 +1,4 @@
+pub mod ServingWords
+pub mod ServingLines
+pub mod Doors
+pub mod RanServing
