@@ -15,7 +15,7 @@ use soc_bus::{Bus, Local, Unkept};
 use soc_desc::Description;
 use std::alloc::Global;
 
-/// A slave on port 0 of a bus whose other ports are idle, and the rooms of its stream. Clauses alone see the bus cycles.
+/// A slave on port 0 of a bus whose other ports are idle, and the rooms of its stream. Clauses alone see its cycles.
 #[derive(Drop)]
 pub struct PortSlave<'a> {
     session: Session,
