@@ -1,14 +1,16 @@
 -- Where no port waits, nobody is granted.
-use Rattle.std.proofs.Common.{◌≡◌, ◌⊎◌, inl, inr, ◌≤◌, ◌<◌, ◌+◌, ℕ, zero, suc, Bool, true, false, is_some, List, [], ◌∷◌, length, get_or, Option, Some, None, refl, ap, sym, ◌∙◌, arith}
+use Rattle.std.proofs.Common.{◌≡◌, ◌⊎◌, inl, inr, ◌≤◌, ◌<◌, ◌+◌, ◌==◌, ◌&&◌, ℕ, zero, suc, Bool, true, false, is_some, List, [], ◌∷◌, length, get_or, Option, Some, None, refl, ap, sym, ◌∙◌, arith}
 use Rattle.std.proofs.lemmas.Nat.Bits.{bit_at-zero}
 use Rattle.std.proofs.Math.Nat.{eq-or-lt_of_le}
 use Rattle.std.proofs.lemmas.Bool.{cases_order}
 use Rattle.std.proofs.lemmas.List.{get_or_past, length-map}
+use Rattle.std.specs.Int.{bit_at}
+use Rattle.std.specs.List.{list_all}
 use Rattle.wb_signals.specs.declared.slave_set.SlaveSet.{SlaveSet}
 use Rattle.wb_crossbar.specs.Grant.{Turn, port_at, IsGrant, IsNext}
 use Rattle.wb_crossbar.specs.Looks.{set_in}
-use Rattle.soc_core.specs.Core.{CorePort, resting_port, wants_of}
-use Rattle.soc_bus.specs.View.{CycleView, states, wanting}
+use Rattle.soc_core.specs.Core.{Phase, Idle, Wants, Holds, Leaves, CorePort, resting_port, wants_of, phase_after, granted_from}
+use Rattle.soc_bus.specs.View.{CycleView, is_resting, states, wanting}
 use Rattle.soc_bus.proofs.CycleLists.{get_state}
 
 pub nobody_granted : (turn : Turn) (wants : ℕ → Option ℕ) (held : ℕ) → ((m : ℕ) → wants m ≡ None) → IsGrant turn wants held 0
@@ -56,3 +58,37 @@ nobody_waits cycles i past below m = by_case (cases_order m i)
     by_case (inl e) = beyond (omega (arith, e))
     by_case (inr (inl l)) = below m l
     by_case (inr (inr g)) = beyond (omega (arith, g))
+
+-- ---- ports whose phases stay
+
+abbrev pub rests : CycleView → Bool
+rests c = is_resting c.state.phase
+
+both_true : (a b : Bool) → (a && b) ≡ true → (a ≡ true) × (b ≡ true)
+both_true true b e = (refl, e)
+both_true false b e = absurd (cc)
+
+same_phase : (granted : Bool) (phase : Phase) → is_resting phase ≡ true → phase_after granted phase ≡ phase
+same_phase granted Idle e = refl
+same_phase granted (Wants set) e = absurd (cc)
+same_phase granted (Holds set) e = refl
+same_phase granted Leaves e = absurd (cc)
+
+wants_none : (phase : Phase) → is_resting phase ≡ true → wants_of phase ≡ None
+wants_none Idle e = refl
+wants_none (Wants set) e = absurd (cc)
+wants_none (Holds set) e = refl
+wants_none Leaves e = absurd (cc)
+
+pub rest_stays : (grant n : ℕ) (cycles : List CycleView) → list_all rests cycles ≡ true → states cycles ≡ granted_from grant n (states cycles)
+rest_stays grant n [] e = refl
+rest_stays grant n (c ∷ cycles) e =
+    let both = both_true (rests c) (list_all rests cycles) e in
+    let same = sym (same_phase (bit_at grant n == 1) c.state.phase both.0) in
+    let more = rest_stays grant (suc n) cycles both.1 in
+    λ i. record { phase = same i; opened = c.state.opened; loaded = c.state.loaded; sent = c.state.sent; got = c.state.got; owed = c.state.owed } ∷ more i
+
+pub rest_waits : (cycles : List CycleView) → list_all rests cycles ≡ true → (m : ℕ) → wanting (states cycles) m ≡ None
+rest_waits [] e m = refl
+rest_waits (c ∷ cycles) e zero = wants_none c.state.phase (both_true (rests c) (list_all rests cycles) e).0
+rest_waits (c ∷ cycles) e (suc m) = rest_waits cycles (both_true (rests c) (list_all rests cycles) e).1 m

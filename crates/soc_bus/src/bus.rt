@@ -11,7 +11,7 @@ ghost use Rattle.soc_core.specs.Sound.{is_busy_phase};
 ghost use Rattle.soc_wave.specs.Shown.{ShowsTick, holders_from};
 ghost use Rattle.soc_bus.specs.Local.{AllIdle};
 ghost use Rattle.soc_bus.specs.Ledger.{AddsOwn, KeepsLedger};
-ghost use Rattle.soc_bus.specs.View.{IsBus, states, rooms, sets_given, sets_wanted, wanting};
+ghost use Rattle.soc_bus.specs.View.{IsBus, is_resting, states, rooms, sets_given, sets_wanted, wanting};
 
 use crate::clock::{clock, hold_all};
 use crate::cycle::Cycle;
@@ -355,6 +355,9 @@ fn grant_all<P: PairRecorder>(arbiter: &mut Arbiter, cycles: &mut [Cycle<P>]) ->
     ensures states { states cycles.new ≡ granted_from result 0 (states cycles.old) }
     ensures rooms { rooms cycles.new ≡ rooms cycles.old }
 {
+    if all_rest(cycles) {
+        return 0;
+    }
     if !any_waits(cycles) {
         step_all(cycles, 0);
         return 0; // the arbiter looks at nobody, and stays as it is
@@ -364,6 +367,13 @@ fn grant_all<P: PairRecorder>(arbiter: &mut Arbiter, cycles: &mut [Cycle<P>]) ->
     let grant = arbiter.step(&wants[..cycles.len()], held);
     step_all(cycles, grant);
     grant
+}
+
+/// Whether a tick leaves the phases of all ports as they are.
+fn all_rest<P: PairRecorder>(cycles: &[Cycle<P>]) -> bool
+    ensures rest { result ≡ list_all (λ c. is_resting c.state.phase) cycles.now }
+{
+    cycles.iter().all(|cycle| cycle.rests())
 }
 
 /// Whether a port waits for slaves.

@@ -4,7 +4,7 @@ ghost use Rattle.wb_signals.specs.Cycles.{paired};
 ghost use Rattle.soc_core.specs.Core.{Wants, Leaves, resting_port, unloaded, is_idle, is_granted, with_phase, phase_after, wants_of, held_by};
 ghost use Rattle.soc_core.specs.Sound.{is_busy_phase};
 ghost use Rattle.wb_crossbar.specs.Looks.{set_in};
-ghost use Rattle.soc_bus.specs.View.{phase_of};
+ghost use Rattle.soc_bus.specs.View.{phase_of, is_resting};
 
 use crate::phase::Phase;
 use crate::recorder::PairRecorder;
@@ -67,6 +67,13 @@ impl<P: PairRecorder> Cycle<P> {
         ensures busy { result ≡ is_busy_phase self.now.state.phase }
     {
         matches!(self.phase, Phase::Wants(_) | Phase::Holds(_))
+    }
+
+    /// Whether a tick leaves its phase as it is: it neither waits nor has released its set.
+    pub fn rests(&self) -> bool
+        ensures rests { result ≡ is_resting self.now.state.phase }
+    {
+        matches!(self.phase, Phase::Idle | Phase::Holds(_))
     }
 
     /// The set that it waits for.

@@ -65,6 +65,12 @@ shifted (y ∷ ys) x h =
     paste_all (y ∷ ys) 0 ys (length ys) refl ∙ ap (λ l. ys ++ l) (ap (λ k. drop k (y ∷ ys)) (zero-add (length ys)) ∙ last) in
     rw (n, all) (set-append_seam ys (get_or (y ∷ ys) (length ys) None) [] x)
 
+-- a line of one place
+pub shifted_one : (line : List (Option Answer)) (x : Option Answer) → length line - 1 ≡ 0 → 0 < length line → set line (length line - 1) x ≡ drop 1 line ++ x ∷ []
+shifted_one [] x e h = absurd (omega (arith, h))
+shifted_one (y ∷ []) x e h = refl
+shifted_one (y ∷ z ∷ ys) x e h = absurd (let no : ⊥ = omega (arith, e) in no)
+
 -- The line from a place on, one clock later.
 later : (n : ℕ) (line : List (Option Answer)) (x : Option Answer) → n < length line → drop n (drop 1 line ++ x ∷ []) ≡ drop (suc n) line ++ x ∷ []
 later n line x h =

@@ -92,6 +92,8 @@ fn shift(line: &mut [Option<Answer>], last: Option<Answer>)
     ensures line { line.new ≡ drop 1 line.old ++ last ∷ [] }
 {
     let end = line.len() - 1;
-    line.copy_within(1.., 0);
+    if end > 0 {
+        line.copy_within(1.., 0);
+    }
     line[end] = last;
 }

@@ -1,11 +1,11 @@
 -- The arbiter looks at what the cycles ask for.
-use Rattle.std.proofs.Common.{◌≡◌, ℕ, take, length, refl, subst}
+use Rattle.std.proofs.Common.{◌≡◌, ℕ, take, length, refl, sym, ◌∙◌, subst}
 use Rattle.soc_bus.specs.View.{states, wanting}
 use Rattle.wb_crossbar.specs.Looks.{wanted}
 use Rattle.wb_crossbar.specs.Grant.{IsGrant}
 use Rattle.soc_core.specs.Core.{held}
 use Rattle.soc_bus.proofs.CycleLists.{wanted_is}
-use Rattle.soc_bus.proofs.Nobody.{nobody_granted, nobody_next}
+use Rattle.soc_bus.proofs.Nobody.{nobody_granted, nobody_next, rest_waits, rest_stays}
 use Rattle.soc_bus.proofs.bus.grant_all.Goals as goal
 
 pub returns-clause-grant : goal.returns-clause-grant
@@ -22,3 +22,14 @@ returns-then-not-any_waits-clause-grant g c =
 
 pub returns-then-not-any_waits-clause-next : goal.returns-then-not-any_waits-clause-next
 returns-then-not-any_waits-clause-next g c = nobody_next c.args.arbiter.now c.requires.within
+
+pub returns-then-all_rest : goal.returns-then-all_rest
+returns-then-all_rest g c =
+    let rest = sym c.all_rest.ensures.rest ∙ c.if-all_rest.true in
+    record {
+      grant = nobody_granted c.args.arbiter.now (wanting (states c.args.cycles.now)) (held (states c.args.cycles.now)) (rest_waits c.args.cycles.now rest);
+      next = nobody_next c.args.arbiter.now c.requires.within;
+      ports = refl;
+      states = rest_stays 0 0 c.args.cycles.now rest;
+      rooms = refl;
+    }
