@@ -5,6 +5,7 @@
 //! congruential generator, so that the same start gives the same stream.
 //!
 //! - `draws`: the numbers that a stream is made of
+//! - `piece`: octets that are made where they stand
 //! - `record`: the octets of its records
 //! - `source`: the stream as a source
 //! - `counted`: cycles that are counted as they end
@@ -15,6 +16,7 @@
 mod counted;
 mod draws;
 pub mod laws;
+mod piece;
 mod record;
 mod source;
 mod summary;

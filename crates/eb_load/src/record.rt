@@ -6,11 +6,8 @@ ghost use Rattle.eb_load.specs.Draws.{state_after};
 ghost use Rattle.eb_load.specs.Stream.{values_from, addresses_from, after_record, load_record_octets};
 
 use crate::draws::Draws;
+use crate::piece::Piece;
 use eb_codec::flags::{BCA, CYC};
-use eb_io::Line;
-
-// The octets of a record or the header, in place.
-pub type Piece = Line<44>;
 
 // Appends the octets of a number, the highest first.
 #[tactic(auto, unfolding(eb_base::specs::Field::octets_of))]
@@ -19,7 +16,7 @@ fn put_number(out: &mut Piece, n: u32)
     ensures items { out.new ≡ out.old ++ octets_of W32 n }
     ensures len { length out.new ≡ length out.old + 4 }
 {
-    out.put(&n.to_be_bytes());
+    out.put(n.to_be_bytes());
 }
 
 // Appends so many values.
@@ -49,19 +46,19 @@ fn put_addresses(out: &mut Piece, draws: &mut Draws, count: u32)
     }
 }
 
-// The octets of the next record.
-pub fn next_record(draws: &mut Draws) -> Piece
-    ensures octets { result ≡ load_record_octets draws.old }
+// Puts the octets of the next record in place of those that there are.
+pub fn put_record(out: &mut Piece, draws: &mut Draws)
+    ensures octets { out.new ≡ load_record_octets draws.old }
     ensures draws { draws.new ≡ after_record draws.old }
-    ensures some { 0 < length result }
+    ensures some { 0 < length out.new }
 {
     let writes = 1 + draws.draw() % 4;
     let base = 4 * (draws.draw() % 16_380);
     let reads = 1 + draws.draw() % 4;
-    let mut out = Piece::of(&[BCA + CYC, 0x0f, writes as u8, reads as u8]);
-    put_number(&mut out, base);
-    put_values(&mut out, draws, writes);
-    put_number(&mut out, 0);
-    put_addresses(&mut out, draws, reads);
-    out
+    out.clear();
+    out.put([BCA + CYC, 0x0f, writes as u8, reads as u8]);
+    put_number(out, base);
+    put_values(out, draws, writes);
+    put_number(out, 0);
+    put_addresses(out, draws, reads);
 }

@@ -5,7 +5,8 @@ ghost use Rattle.eb_load.specs.Filling.{Filled};
 ghost use Rattle.eb_load.specs.Stream.{load_octets, octets_of_records};
 
 use crate::draws::Draws;
-use crate::record::{Piece, next_record};
+use crate::piece::Piece;
+use crate::record::put_record;
 use eb_codec::flags::{MAGIC, VERSION};
 use eb_io::{Got, Source};
 
@@ -36,13 +37,15 @@ impl LoadSource {
         ensures tells { load_reading result
             ≡ record { given = Some []; left = Some (load_octets start records); faults = 0 } }
     {
+        let mut piece = Piece::new();
+        piece.put([MAGIC[0], MAGIC[1], VERSION, 0x44]);
         LoadSource {
             start,
             total: records,
             given: 0,
             draws: Draws::from(start),
             records,
-            piece: Piece::of(&[MAGIC[0], MAGIC[1], VERSION, 0x44]),
+            piece,
             at: 0,
         }
     }
@@ -63,7 +66,7 @@ impl LoadSource {
         ensures some { self.new.at < length self.new.piece }
         ensures fewer { self.new.records < self.old.records }
     {
-        self.piece = next_record(&mut self.draws);
+        put_record(&mut self.piece, &mut self.draws);
         self.records -= 1;
         self.at = 0;
     }

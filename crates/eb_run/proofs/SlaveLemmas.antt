@@ -5,6 +5,9 @@ use Rattle.eb_base.specs.declared.width.Width.TheVariants.{W32}
 use Rattle.eb_io.specs.Reading.{Reading}
 use Rattle.eb_io.specs.Writing.{Writing}
 use Rattle.wb_signals.specs.History.{Entry, IsLegal, given}
+use Rattle.wb_signals.specs.Content.{Content}
+use Rattle.wb_signals.specs.Cycles.{MasterCycles}
+use Rattle.wb_signals.specs.Wiring.{Wiring}
 use Rattle.eb_session.specs.Cycles.{Fit}
 use Rattle.eb_session.specs.declared.slave.Slave.{Slave}
 use Rattle.eb_server.specs.Serving as serving
@@ -15,14 +18,11 @@ use Rattle.eb_run.specs.Slave.{IsMade, system_of}
 use Rattle.eb_run.specs.Streams.{ServedOn, ram_system}
 use Rattle.eb_run.specs.declared.slave.PlainSlave.{PlainSlave}
 
--- The master was new, and its entries are a legal history.
-pub served_on : (s : Slave) (old new : PlainState) (source source' : Reading) (out out' : Writing) (e : Ending) → old ≡ new_plain old.began 0 → new.began ≡ old.began
-    → IsLegal (wiring_of new.began) new.began.contents new.made
-    → serving.Served old.number s (record { made = old.made; opened = old.opened }) (record { made = new.made; opened = new.opened }) source source' out out' e
-    → ServedOn (record { slave = s; wiring = wiring_of old.began; contents = old.began.contents }) source source' out out' new.made e
-served_on s old new source source' out out' e is_new began legal served =
-    let none : old.made ≡ [] = ap (λ (p : PlainState). p.made) is_new in
-    let number : old.number ≡ 0 = ap (λ (p : PlainState). p.number) is_new in
+-- The master had made nothing, and its entries are a legal history.
+pub served_by : (s : Slave) (wiring : Wiring) (contents : List Content) (n : ℕ) (old new : MasterCycles) (source source' : Reading) (out out' : Writing) (e : Ending) → n ≡ 0 → old.made ≡ []
+    → IsLegal wiring contents new.made → serving.Served n s old new source source' out out' e
+    → ServedOn (record { slave = s; wiring = wiring; contents = contents }) source source' out out' new.made e
+served_by s wiring contents n old new source source' out out' e number none legal served =
     let made : served.entries ≡ new.made = sym (served.made ∙ ap (λ (l : List Entry). l ++ served.entries) none) in
     let P : ℕ → Type 0 = λ n. All (λ (entry : Entry). entry.master ≡ n) served.entries in
     let mine : All (λ (entry : Entry). entry.master ≡ 0) served.entries = subst P number served.mine in
@@ -33,9 +33,18 @@ served_on s old new source source' out out' e is_new began legal served =
       ran = served.ran;
       fit = subst (λ (l : List Entry). Fit s.bus served.items l) made served.fit;
       mine = subst (λ (l : List Entry). All (λ entry. entry.master ≡ 0) l) made mine;
-      legal = subst (λ (m : MachineState). IsLegal (wiring_of m) m.contents new.made) began legal;
+      legal = legal;
       answered = subst (λ (l : List Entry). serving.WereAnswered s out out' served.items (given l) e) made served.answered;
     }
+
+-- It was a plain master on its machine.
+pub served_on : (s : Slave) (old new : PlainState) (source source' : Reading) (out out' : Writing) (e : Ending) → old ≡ new_plain old.began 0 → new.began ≡ old.began
+    → IsLegal (wiring_of new.began) new.began.contents new.made
+    → serving.Served old.number s (record { made = old.made; opened = old.opened }) (record { made = new.made; opened = new.opened }) source source' out out' e
+    → ServedOn (record { slave = s; wiring = wiring_of old.began; contents = old.began.contents }) source source' out out' new.made e
+served_on s old new source source' out out' e is_new began legal served =
+    served_by s (wiring_of old.began) old.began.contents old.number (record { made = old.made; opened = old.opened }) (record { made = new.made; opened = new.opened }) source source' out out' e
+    (ap (λ (p : PlainState). p.number) is_new) (ap (λ (p : PlainState). p.made) is_new) (subst (λ (m : MachineState). IsLegal (wiring_of m) m.contents new.made) began legal) served
 
 -- a slave of a machine of one RAM, without a table
 pub ram_is : {R : Type 0} (octets : ℕ) (b : PlainSlave R) → IsMade (built_with_ram W32 octets) 0 b → system_of b ≡ ram_system octets

@@ -9,6 +9,7 @@ ghost use Rattle.eb_run.specs.declared.plain.Family.TheVariants.{Plain};
 use crate::files::read_description;
 use crate::load::load;
 use crate::sim::sim;
+use crate::port_slave::PortSlave;
 use crate::slave::PlainSlave;
 use crate::streams::answer_capture;
 use eb_base::Width;
@@ -17,6 +18,7 @@ use eb_server::Ending;
 use eb_text::{Command, Fault, command_of, write_build, write_listing};
 use eb_tour::tour_described;
 use sdb_build::images;
+use soc_bus::Bus;
 use soc_machine::Machine;
 use soc_trail::Unkept;
 use std::alloc::Global;
@@ -56,10 +58,10 @@ fn answer<W: World, O: Sink>(
         (Answer description.now capture.now) result }
 {
     let described = read_description(alloc, description, world)?;
-    let Ok(machine) = Machine::build(alloc, &described) else {
+    let Ok(mut bus) = Bus::build(alloc, soc_bus::Unkept::new(), &described) else {
         return Err(Fault::NoMemory);
     };
-    let Ok(mut slave) = PlainSlave::new(alloc, Unkept::new(), machine, described.bus.sdb) else {
+    let Ok(mut slave) = PortSlave::new(alloc, &mut bus, &described) else {
         return Err(Fault::NoMemory);
     };
     answer_capture(alloc, capture, world, &mut slave, out)

@@ -6,7 +6,7 @@ ghost use Rattle.soc_machine.specs.Machine.{built_with_ram};
 ghost use Rattle.eb_run.specs.Slave.{IsMade};
 ghost use Rattle.eb_run.specs.Commands.{MakesText, Summed};
 
-use crate::slave::PlainSlave;
+use crate::slave::{PlainSlave, StreamSlave};
 use eb_base::{NoMemory, Width};
 use eb_io::{CountSink, Sink};
 use eb_load::{Counted, LoadSource, Summary};

@@ -1,9 +1,10 @@
 // A slave with the master that it has for itself, on which a stream is served.
-ghost use Rattle.std.specs.Prelude.{◌≡◌, [], IfOk};
+ghost use Rattle.std.specs.Prelude.{◌≡◌, [], List, IfOk};
+ghost use Rattle.wb_signals.specs.History.{Entry};
 ghost use Rattle.eb_base.specs.declared.width.Width.TheVariants.{W32};
 ghost use Rattle.soc_machine.specs.Machine.{machine_width};
-ghost use Rattle.eb_run.specs.Streams.{ServedOn};
-ghost use Rattle.eb_run.specs.Slave.{IsNewSlave, IsMade, system_of, entries_of};
+ghost use Rattle.eb_run.specs.Streams.{System, ServedOn};
+ghost use Rattle.eb_run.specs.Slave.{IsMade, entries_of};
 
 use eb_base::{NoMemory, Width};
 use eb_io::{Sink, Source};
@@ -13,8 +14,26 @@ use soc_machine::{Machine, PlainMaster};
 use soc_trail::Recorder;
 use std::alloc::Global;
 
-// How many octets of a stream are read at once.
-const ROOM: usize = 65_536;
+/// How many octets of a stream are read at once.
+pub const ROOM: usize = 65_536;
+
+/// A slave of which the master is its own, so that its entries are a legal history by themselves.
+pub trait StreamSlave {
+    // The slave, and the bus as it was when the session began.
+    ghost system: { Self → System };
+
+    // No stream was served on it.
+    ghost is_new: { Self → Type 0 };
+
+    // The entries of its cycles.
+    ghost entries: { Self → List Entry };
+
+    /// Serves the stream of a source, and writes the replies to a sink.
+    fn serve<S: Source, K: Sink>(&mut self, source: &mut S, sink: &mut K) -> Ending
+        requires new { is_new self.old }
+        ensures served { ServedOn (system self.old) (S.reading source.old) (S.reading source.new)
+            (K.writing sink.old) (K.writing sink.new) (entries self.new) result };
+}
 
 /// A slave on a bus of 32 data bits with the machine behind it, and the rooms of its stream. Its recorder has what
 /// becomes of the bus cycles.
@@ -48,12 +67,24 @@ impl<R: Recorder> PlainSlave<R> {
         })
     }
 
-    /// Serves the stream of a source, and writes the replies to a sink.
-    pub fn serve<S: Source, K: Sink>(&mut self, source: &mut S, sink: &mut K) -> Ending
-        requires new { IsNewSlave self.old }
-        ensures served { ServedOn (system_of self.old) (S.reading source.old) (S.reading source.new)
-            (K.writing sink.old) (K.writing sink.new) (entries_of self.new) result }
+    /// The recorder with the entries of the cycles.
+    pub fn recorder(&self) -> &R
+        ensures entries { R.made result.now ≡ entries_of self.now }
     {
+        self.master.recorder()
+    }
+}
+
+impl<R: Recorder> StreamSlave for PlainSlave<R> {
+    ghost use Rattle.eb_run.specs.Slave.{IsNewSlave, system_of, entries_of};
+
+    ghost system = { system_of };
+
+    ghost is_new = { IsNewSlave };
+
+    ghost entries = { entries_of };
+
+    fn serve<S: Source, K: Sink>(&mut self, source: &mut S, sink: &mut K) -> Ending {
         let ending = serve(
             source,
             sink,
@@ -64,12 +95,5 @@ impl<R: Recorder> PlainSlave<R> {
         // The entries are a legal history.
         let _ = self.master.recorder();
         ending
-    }
-
-    /// The recorder with the entries of the cycles.
-    pub fn recorder(&self) -> &R
-        ensures entries { R.made result.now ≡ entries_of self.now }
-    {
-        self.master.recorder()
     }
 }

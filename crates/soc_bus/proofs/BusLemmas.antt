@@ -33,6 +33,7 @@ use Rattle.soc_bus.proofs.ServedLemmas.{length-sampled, length-rows, length-owed
 use Rattle.soc_bus.proofs.Joined.{joined-set, joined-get, joined-granted, joined-held, joined-wants, joined-clocked, joined-passed, Matches}
 use Rattle.soc_bus.proofs.Serving.{served, matching}
 use Rattle.soc_bus.proofs.ShownLemmas.{rows_shown, holders_shown}
+use Rattle.soc_bus.proofs.Quiet.{all_answered, quiet_core, granted_pending}
 use Rattle.soc_machine.specs.Described.{described_wiring}
 
 abbrev pub no_cycle : CycleView
@@ -96,6 +97,9 @@ module _ (d : Description) (x : CrossbarState) (cs : List CycleView) (ps : List 
 
   long_owed : length x.owed ≡ length (states cs)
   long_owed = made.owed ∙ sym long_states
+
+  pub holders_now : (n : ℕ) → holders_from (states cs) 0 n ≡ holders_from core.ports 0 n
+  holders_now n = holders_shown (states cs) ps x.owed 0 n long_ports long_owed
 
   abbrev owed_to : ℕ → List Owed
   owed_to m = get_or x.owed m []
@@ -387,6 +391,35 @@ module _ (d : Description) (x : CrossbarState) (cs : List CycleView) (ps : List 
         matching d.depth (states cs2) ps x.owed made.deep (long_ports ∙ sym long_mid) (long_owed ∙ sym long_mid)
         (λ m. subst (λ qs. let p = get_or qs m resting_port in length p.got + length p.owed ≡ p.sent) mid_ports ((mid_sound.queues m).counted))
 
+    -- a tick in which nothing is requested or answered
+    module _ (quiet : (m : ℕ) → pending (port core m) ≡ 0) where
+      quiet_mid : (bus_state d x cs2 ps arb2 j).core ≡ mid
+      quiet_mid = λ i. record { ports = sym mid_ports i; contents = x.contents; first = arb2.first; journal = j.entries }
+
+      pub quiet_tick : IsTick f core (bus_state d x cs2 ps arb2 j).core
+      quiet_tick =
+          let answered = all_answered mid.ports (λ m. answered_is f (port mid m) (mid_sound.queues m) (granted_pending grant 0 core.ports quiet m)) in
+          record { grant = grant; first = arb2.first; is_grant = grant_is; is_next = next_is; core = quiet_mid ∙ sym (quiet_core f mid answered) }
+
+      pub quiet_bus : rooms cs2 ≡ rooms cs → IsBus (bus_state d x cs2 ps arb2 j)
+      quiet_bus same_rooms =
+          let new = (bus_state d x cs2 ps arb2 j).core in
+          kept (bus_state d x cs2 ps arb2 j) new refl refl (tick_sound f ok.fabric core new ok.sound quiet_tick)
+          (subst (λ ns. HasSpare new (record { entries = j.spare; pairs = ns })) (sym same_rooms)
+          (tick_room f ok.fabric core new (bus_state d x cs ps arb j).room ok.sound quiet_tick ok.room))
+
+      pub quiet_made : IsMadeOf d x cs2 ps arb2
+      quiet_made = record {
+        width = made.width;
+        slaves = made.slaves;
+        wiring = made.wiring;
+        cycles = sym (length-map cs2 (λ (p : CycleView). p.state)) ∙ long_mid ∙ long_states;
+        ports = made.ports;
+        owed = made.owed;
+        deep = made.deep;
+        turn = turn_kept ∙ made.turn;
+      }
+
     module _ (ps3 : List engine.PortState) (x3 : CrossbarState) (rows : List PortRow)
         (rows_are : rows ≡ rows_after (wiring_of x) x.owed (driven_rows (states cs2) ps)) (sampled_are : ps3 ≡ sampled_all ps rows)
         (after : x3 ≡ after_tick x (driven_rows (states cs2) ps)) where
@@ -450,3 +483,11 @@ module _ (d : Description) (x : CrossbarState) (cs : List CycleView) (ps : List 
         where
           long_rows : length (driven_rows (states cs2) ps) ≡ length x.owed
           long_rows = driven_long (states cs2) ps (long_mid ∙ sym long_ports) ∙ long_ports ∙ sym long_owed
+
+      -- who holds what goes by the core's ports
+      pub tick_held : holders_from (bus_state d x3 cs2 ps3 arb2 j).core.ports 0 f.slaves ≡ holders_from (states cs2) 0 (length x.children)
+      tick_held =
+          let m = tick_made in
+          let long_cs : length (states cs2) ≡ d.masters = length-map cs2 (λ (p : CycleView). p.state) ∙ m.cycles in
+          sym (holders_shown (states cs2) ps3 x3.owed 0 f.slaves (m.ports ∙ sym long_cs) (m.owed ∙ sym long_cs))
+          ∙ ap (holders_from (states cs2) 0) (sym (ap (λ (children : List Child). length children) made.slaves))

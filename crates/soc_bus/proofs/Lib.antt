@@ -3,8 +3,10 @@ pub mod ServedLemmas
 pub mod CycleLists
 pub mod Joined
 pub mod ShownLemmas
+pub mod Nobody
 pub mod Holders
 pub mod Serving
+pub mod Quiet
 pub mod BusLemmas
 pub mod TreeLemmas
 pub mod BuildLemmas

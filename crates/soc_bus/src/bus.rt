@@ -1,5 +1,6 @@
 //! The bus.
-ghost use Rattle.std.specs.Prelude.{IsTrue, ◌≡◌, ◌≢◌, ◌↔◌, ◌≤◌, ◌<◌, ◌^◌, ◌+◌, ℕ, length, take, replicate, [], false, IfOk, OnOk, OnErr, Some, slice_get};
+ghost use Rattle.std.specs.List.{list_all};
+ghost use Rattle.std.specs.Prelude.{IsTrue, ◌≡◌, ◌==◌, true, ◌≢◌, ◌↔◌, ◌≤◌, ◌<◌, ◌^◌, ◌+◌, ℕ, length, take, replicate, [], false, IfOk, OnOk, OnErr, None, Some, slice_get};
 ghost use Rattle.soc_desc.specs.Accepted.{IsAccepted};
 ghost use Rattle.wb_crossbar.specs.Grant.{IsGrant, IsNext};
 ghost use Rattle.wb_port.specs.Port.{idle_port as idle_engine};
@@ -7,12 +8,12 @@ ghost use Rattle.soc_core.specs.Built.{fabric_of, set_of_cycle};
 ghost use Rattle.wb_signals.specs.Cycles.{made_with};
 ghost use Rattle.soc_core.specs.Core.{Core, port, resting_port, resting_ports, built_core, is_idle, is_granted, pending, raised, loaded, taken, released, granted_from, held, wants_of, CanRaise, CanLoad, CanTake, CanRelease, IsTick};
 ghost use Rattle.soc_core.specs.Sound.{is_busy_phase};
-ghost use Rattle.soc_wave.specs.Shown.{ShowsTick};
+ghost use Rattle.soc_wave.specs.Shown.{ShowsTick, holders_from};
 ghost use Rattle.soc_bus.specs.Local.{AllIdle};
 ghost use Rattle.soc_bus.specs.Ledger.{AddsOwn, KeepsLedger};
 ghost use Rattle.soc_bus.specs.View.{IsBus, states, rooms, sets_given, sets_wanted, wanting};
 
-use crate::clock::clock;
+use crate::clock::{clock, hold_all};
 use crate::cycle::Cycle;
 use crate::recorder::{BusRecorder, PairRecorder};
 use crate::sets::{all_of, asked};
@@ -241,11 +242,44 @@ impl<R: BusRecorder> Bus<R> {
         ensures tick { IsTick (fabric_of self.old.description) self.old.core self.new.core }
         ensures description { self.new.description ≡ self.old.description }
     {
+        if self.is_quiet() {
+            self.grant();
+        } else {
+            self.tick_ports();
+        }
+    }
+
+    /// Whether no port has a request or is owed an answer.
+    fn is_quiet(&self) -> bool
+        ensures quiet { result ≡ true → (m : ℕ) → pending (port self.now.core m) ≡ 0 }
+    {
+        all_done(&self.ports)
+    }
+
+    /// One tick in which nothing is requested or answered: the slaves stay as they are.
+    fn grant(&mut self)
+        requires quiet { (m : ℕ) → pending (port self.old.core m) ≡ 0 }
+        ensures keeps { KeepsLedger self.old self.new }
+        ensures tick { IsTick (fabric_of self.old.description) self.old.core self.new.core }
+        ensures description { self.new.description ≡ self.old.description }
+    {
+        let _grant = grant_all(&mut self.arbiter, &mut self.cycles);
+    }
+
+    /// One tick of a bus of any ports. Few ports, the common case, take no room for 16.
+    fn tick_ports(&mut self)
+        ensures keeps { KeepsLedger self.old self.new }
+        ensures tick { IsTick (fabric_of self.old.description) self.old.core self.new.core }
+        ensures description { self.new.description ≡ self.old.description }
+    {
         let ports = self.ports.len();
-        let slaves = self.crossbar.slaves();
-        let mut rows = [PortRow::none(); 16];
-        let mut holders = [None; 128];
-        self.tick_showing(&mut rows[..ports], &mut holders[..slaves]);
+        if ports <= 2 {
+            let mut rows = [PortRow::none(); 2];
+            self.tick_over(&mut rows[..ports]);
+        } else {
+            let mut rows = [PortRow::none(); 16];
+            self.tick_over(&mut rows[..ports]);
+        }
     }
 
     /// One tick, which shows the signals of the ports in its clock, and who holds each top slave.
@@ -259,14 +293,23 @@ impl<R: BusRecorder> Bus<R> {
         ensures rows { length rows.new ≡ length rows.old }
         ensures holders { length holders.new ≡ length holders.old }
     {
+        self.tick_over(rows);
+        hold_all(&self.cycles, holders);
+    }
+
+    /// One tick, which leaves in `rows` the signals of the ports in its clock.
+    fn tick_over(&mut self, rows: &mut [PortRow])
+        requires rows { length rows.old ≡ self.old.description.masters }
+        ensures keeps { KeepsLedger self.old self.new }
+        ensures shows { ShowsTick (fabric_of self.old.description) self.old.core self.new.core
+            (record {
+              ports = rows.new;
+              holders = holders_from self.new.core.ports 0 (fabric_of self.old.description).slaves;
+            }) }
+        ensures description { self.new.description ≡ self.old.description }
+    {
         let _grant = grant_all(&mut self.arbiter, &mut self.cycles);
-        clock(
-            &mut self.crossbar,
-            &self.cycles,
-            &mut self.ports,
-            rows,
-            holders,
-        );
+        clock(&mut self.crossbar, &self.cycles, &mut self.ports, rows);
     }
 }
 
@@ -294,21 +337,45 @@ fn idle_ports(alloc: Global, count: u8, depth: u8) -> Result<Vec<Port>, NoMemory
     Ok(ports)
 }
 
+/// Whether each port has all answers to what it has loaded.
+fn all_done(ports: &[Port]) -> bool
+    ensures done { result ≡ list_all (λ p. length p.answers == length p.loaded) ports.now }
+{
+    ports.iter().all(|port| port.done())
+}
+
 /// Steps 1 and 2 of a tick: the ports that were released are idle, and the arbiter grants.
 fn grant_all<P: PairRecorder>(arbiter: &mut Arbiter, cycles: &mut [Cycle<P>]) -> u32
     requires ports { length cycles.old ≡ arbiter.old.ports }
     requires few { length cycles.old ≤ 16 }
+    requires within { arbiter.old.first < arbiter.old.ports }
     ensures grant { IsGrant arbiter.old (wanting (states cycles.old)) (held (states cycles.old)) result }
     ensures next { IsNext arbiter.old result arbiter.new.first }
     ensures ports { arbiter.new.ports ≡ arbiter.old.ports }
     ensures states { states cycles.new ≡ granted_from result 0 (states cycles.old) }
     ensures rooms { rooms cycles.new ≡ rooms cycles.old }
 {
+    if !any_waits(cycles) {
+        step_all(cycles, 0);
+        return 0; // the arbiter looks at nobody, and stays as it is
+    }
     let wants = wants_in(cycles);
     let held = SlaveSet(held_in(cycles));
     let grant = arbiter.step(&wants[..cycles.len()], held);
     step_all(cycles, grant);
     grant
+}
+
+/// Whether a port waits for slaves.
+fn any_waits<P: PairRecorder>(cycles: &[Cycle<P>]) -> bool
+    ensures none { result ≡ false → (m : ℕ) → wanting (states cycles.now) m ≡ None }
+{
+    for cycle in cycles {
+        if cycle.wants().is_some() {
+            return true;
+        }
+    }
+    false
 }
 
 /// The sets that the ports wait for.

@@ -27,32 +27,26 @@ pub fn clock<P: PairRecorder>(
     cycles: &[Cycle<P>],
     ports: &mut Vec<Port>,
     rows: &mut [PortRow],
-    holders: &mut [Option<u8>],
 )
     requires sound { IsCrossbar node_slave IsSound crossbar.old }
     requires served { AreServed (crossbar_of node_slave crossbar.old)
-        (holders_from (states cycles.now) 0 (length holders.old)) ports.old.items }
+        (holders_from (states cycles.now) 0 (length (crossbar_of node_slave crossbar.old).children)) ports.old.items }
     requires cycles { length cycles.now ≡ length ports.old.items }
     requires rows { length rows.old ≡ length ports.old.items }
-    requires few { length cycles.now ≤ 16 }
-    requires most { length holders.old ≤ 128 }
     ensures rows { rows.new ≡ rows_after (wiring_of (crossbar_of node_slave crossbar.old))
         (crossbar_of node_slave crossbar.old).owed (driven_rows (states cycles.now) ports.old.items) }
-    ensures holders { holders.new ≡ holders_from (states cycles.now) 0 (length holders.old) }
-    ensures length { length holders.new ≡ length holders.old }
     ensures crossbar { crossbar_of node_slave crossbar.new
         ≡ after_tick (crossbar_of node_slave crossbar.old) (driven_rows (states cycles.now) ports.old.items) }
     ensures sound { IsCrossbar node_slave IsSound crossbar.new }
     ensures ports { ports.new.items ≡ sampled_all ports.old.items rows.new }
 {
-    hold_all(cycles, holders);
     drive_all(cycles, ports, rows);
-    crossbar.tick(rows, holders);
+    crossbar.tick(rows);
     sample_all(ports, rows);
 }
 
 /// The port that holds each top slave.
-fn hold_all<P: PairRecorder>(cycles: &[Cycle<P>], holders: &mut [Option<u8>])
+pub fn hold_all<P: PairRecorder>(cycles: &[Cycle<P>], holders: &mut [Option<u8>])
     requires few { length cycles.now ≤ 16 }
     requires most { length holders.old ≤ 128 }
     ensures holders { holders.new ≡ holders_from (states cycles.now) 0 (length holders.old) }

@@ -2,8 +2,9 @@
 use Rattle.std.proofs.Common.{◌≡◌, ℕ, zero, suc, ◌+◌, ◌-◌, ◌<◌, ◌≤◌, List, [], ◌∷◌, ◌++◌, length, length-append, length-drop, zero-add, get_or, set, take, drop, replicate, map, Bool, false, refl, ap, add-one, sym, ◌∙◌, arith, Option, Some, None, ◌==◌, not}
 use Rattle.std.specs.List.{list_any}
 use Rattle.std.specs.Option.{is_some}
-use Rattle.std.proofs.lemmas.List.{drop-append-le, drop-drop, append-nil}
-use Rattle.std.proofs.Math.Seq.{drop-cons, set-append_seam}
+use Rattle.std.proofs.lemmas.List.{drop-append-le, drop-drop, drop_all, take_all, length-take-le, append-nil}
+use Rattle.std.proofs.lemmas.List.Edits.{paste_all}
+use Rattle.std.proofs.Math.Seq.{drop-cons, paste, set-append_seam}
 use Rattle.wb_signals.specs.Request.{Request}
 use Rattle.wb_signals.specs.Content.{Content, size_of}
 use Rattle.wb_signals.specs.Wiring.{stepped}
@@ -54,17 +55,34 @@ pub left-owed_from : (x : Option Answer) (line : List (Option Answer)) → left 
 left-owed_from None line = left-later 0 line
 left-owed_from (Some a) line = map_sooner-owed_from 0 line
 
-pub shifted : (line : List (Option Answer)) (x : Option Answer) → 0 < length line → set (drop 1 line ++ take 1 line) (length (drop 1 line ++ take 1 line) - 1) x ≡ drop 1 line ++ x ∷ []
+pub shifted : (line : List (Option Answer)) (x : Option Answer) → 0 < length line → set (paste line 0 (drop 1 line) (length line - 1)) (length line - 1) x ≡ drop 1 line ++ x ∷ []
 shifted [] x h = absurd (omega arith)
 shifted (y ∷ ys) x h =
-    let e : length (ys ++ y ∷ []) - 1 ≡ length ys = omega (arith, length-append ys (y ∷ [])) in
-    rw e (set-append_seam ys y [] x)
+    let n : length (y ∷ ys) - 1 ≡ length ys = omega arith in
+    let last : drop (length ys) (y ∷ ys) ≡ get_or (y ∷ ys) (length ys) None ∷ [] =
+    drop-cons (y ∷ ys) (length ys) None (omega arith) ∙ ap (λ l. get_or (y ∷ ys) (length ys) None ∷ l) (drop_all (length ys) ys (omega arith)) in
+    let all : paste (y ∷ ys) 0 ys (length ys) ≡ ys ++ get_or (y ∷ ys) (length ys) None ∷ [] =
+    paste_all (y ∷ ys) 0 ys (length ys) refl ∙ ap (λ l. ys ++ l) (ap (λ k. drop k (y ∷ ys)) (zero-add (length ys)) ∙ last) in
+    rw (n, all) (set-append_seam ys (get_or (y ∷ ys) (length ys) None) [] x)
 
 -- The line from a place on, one clock later.
 later : (n : ℕ) (line : List (Option Answer)) (x : Option Answer) → n < length line → drop n (drop 1 line ++ x ∷ []) ≡ drop (suc n) line ++ x ∷ []
 later n line x h =
     let k : n ≤ length (drop 1 line) = omega (arith, length-drop 1 line) in
     drop-append-le n (drop 1 line) (x ∷ []) k ∙ ap (λ l. l ++ x ∷ []) (drop-drop n 1 line ∙ (let e : 1 + n ≡ suc n = omega arith in ap (λ m. drop m line) e))
+
+-- The places from n on, shifted by themselves: the line after that from n on.
+pub tail_later : (n k : ℕ) (line : List (Option Answer)) (x : Option Answer) → n < length line → length line ≤ n + k
+    → drop n (take n line ++ ((drop 1 (take k (drop n line)) ++ x ∷ []) ++ drop k (drop n line))) ≡ drop n (drop 1 line ++ x ∷ [])
+tail_later n k line x h l =
+    let tail : List (Option Answer) = drop n line in
+    let front : length (take n line) ≡ n = length-take-le n line (omega (arith, h)) in
+    let short : length tail ≤ k = omega (arith, l, length-drop n line) in
+    let rest : List (Option Answer) = (drop 1 (take k tail) ++ x ∷ []) ++ drop k tail in
+    let one : drop 1 tail ≡ drop (suc n) line = drop-drop 1 n line ∙ (let e : n + 1 ≡ suc n = omega arith in ap (λ m. drop m line) e) in
+    let is : rest ≡ drop (suc n) line ++ x ∷ [] =
+    rw (take_all k tail short, drop_all k tail short) (append-nil (drop 1 tail ++ x ∷ []) ∙ ap (λ l. l ++ x ∷ []) one) in
+    drop-append-le n (take n line) rest (omega (arith, front)) ∙ ap (λ l. l ++ rest) (drop_all n (take n line) (omega (arith, front))) ∙ is ∙ sym (later n line x h)
 
 owed-later : (n : ℕ) (line : List (Option Answer)) (x : Option Answer) → n < length line
     → owed_from 0 (drop n (drop 1 line ++ x ∷ [])) ≡ left (owed_from 0 (drop n line)) ++ owed_from (length line - suc n) (x ∷ [])

@@ -57,9 +57,10 @@ impl Clocked for Piped {
     }
 
     fn tick(&mut self, op: Option<Op>) -> Option<Answer> {
-        let answer = self.line[self.first()];
+        let first = self.first();
+        let answer = self.line[first];
         let next = apply_given(&mut self.device, op);
-        shift(&mut self.line, next);
+        shift(&mut self.line[first..], next); // the places before stay empty
         answer
     }
 }
@@ -90,7 +91,7 @@ fn shift(line: &mut [Option<Answer>], last: Option<Answer>)
     requires some { 0 < length line.old }
     ensures line { line.new ≡ drop 1 line.old ++ last ∷ [] }
 {
-    line.rotate_left(1);
     let end = line.len() - 1;
+    line.copy_within(1.., 0);
     line[end] = last;
 }

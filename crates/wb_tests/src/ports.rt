@@ -55,7 +55,7 @@ fn clock(crossbar: &mut Crossbar<Node>, op: Op) -> PortRow
         ..PortRow::none()
     };
     let mut rows = [row];
-    crossbar.tick(&mut rows, &[Some(0)]);
+    crossbar.tick(&mut rows);
     rows[0]
 }
 

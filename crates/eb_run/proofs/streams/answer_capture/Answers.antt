@@ -1,5 +1,4 @@
 use Rattle.eb_run.specs.Run.{run_of}
-use Rattle.eb_run.specs.Slave.{system_of, entries_of}
 use Rattle.eb_run.proofs.FileLemmas.{answers}
 use Rattle.eb_run.proofs.streams.answer_capture.Goals as goal
 
@@ -9,6 +8,6 @@ returns-in-Done g c =
     run_of g.W.File.Source.reading (g.W.World.outside c.args.world.now) (g.W.World.outside c.serve_last.new.world) (g.O.Sink.writing c.args.out.now) (g.O.Sink.writing c.serve_last.new.out) in
     record {
       answers =
-          answers run (g.W.World.outside c.open.new.self) c.args.capture.now (system_of c.args.slave.now) (entries_of c.serve_last.new.slave) c.serve_last.result c.result_of.result
+          answers run (g.W.World.outside c.open.new.self) c.args.capture.now (g.L.StreamSlave.system c.args.slave.now) (g.L.StreamSlave.entries c.serve_last.new.slave) c.serve_last.result c.result_of.result
           c.in-Done.ensures.opens c.serve_last.ensures.last c.result_of.ensures.result;
     }

@@ -4,7 +4,6 @@ use Rattle.std.proofs.lemmas.List.{length-map}
 use Rattle.wb_signals.specs.Parts.{contents_in}
 use Rattle.wb_signals.specs.Turn.{owed_by}
 use Rattle.wb_tree.specs.Tree.{node_slave}
-use Rattle.wb_crossbar.specs.Crossbar.{CanTick}
 use Rattle.wb_crossbar.specs.Inside.{crossbar_of, parts_of}
 use Rattle.soc_bus.specs.View.{CycleView, states}
 use Rattle.soc_bus.specs.Clocked.{driven_rows}
@@ -19,8 +18,8 @@ tick-requires-clause-can g c =
     let cycles = states c.args.cycles.now in
     let n : length cycles ≡ length c.args.ports.now.items = length-map c.args.cycles.now (λ (p : CycleView). p.state) ∙ c.requires.cycles in
     let drove : c.drive_all.new.rows ≡ driven_rows cycles c.args.ports.now.items = c.drive_all.ensures.rows ∙ ap (driven_rows cycles) c.deref.ensures.value in
-    subst (CanTick (crossbar_of node_slave s) c.drive_all.new.rows) (sym c.hold_all.ensures.holders)
-    (can_tick s.width parts (contents_in parts) (map (owed_by parts) s.ports.items) (holders_from cycles 0 (length c.args.holders.now)) c.requires.sound.owed.fits cycles c.args.ports.now.items c.drive_all.new.rows
+    let holders = holders_from cycles 0 (length (crossbar_of node_slave s).children) in
+    (holders, can_tick s.width parts (contents_in parts) (map (owed_by parts) s.ports.items) holders c.requires.sound.owed.fits cycles c.args.ports.now.items c.drive_all.new.rows
     c.requires.served n drove c.drive_all.ensures.operations)
 
 pub sample_all-requires-clause-passes : goal.sample_all-requires-clause-passes
@@ -29,7 +28,7 @@ sample_all-requires-clause-passes g c = λ m p row f g.
     let cycles = states c.args.cycles.now in
     let n : length cycles ≡ length c.args.ports.now.items = length-map c.args.cycles.now (λ (p : CycleView). p.state) ∙ c.requires.cycles in
     let drove : c.drive_all.new.rows ≡ driven_rows cycles c.args.ports.now.items = c.drive_all.ensures.rows ∙ ap (driven_rows cycles) c.deref.ensures.value in
-    can_pass x (holders_from cycles 0 (length c.args.holders.now)) cycles c.args.ports.now.items c.drive_all.new.rows c.requires.served n drove m row
+    can_pass x (holders_from cycles 0 (length x.children)) cycles c.args.ports.now.items c.drive_all.new.rows c.requires.served n drove m row
     (subst (λ rows. slice_get rows m ≡ Some row) c.tick.ensures.rows g) p f
 
 pub sample_all-requires-clause-answers : goal.sample_all-requires-clause-answers
@@ -38,5 +37,5 @@ sample_all-requires-clause-answers g c = λ m p row f g.
     let cycles = states c.args.cycles.now in
     let n : length cycles ≡ length c.args.ports.now.items = length-map c.args.cycles.now (λ (p : CycleView). p.state) ∙ c.requires.cycles in
     let drove : c.drive_all.new.rows ≡ driven_rows cycles c.args.ports.now.items = c.drive_all.ensures.rows ∙ ap (driven_rows cycles) c.deref.ensures.value in
-    can_answer x (holders_from cycles 0 (length c.args.holders.now)) cycles c.args.ports.now.items c.drive_all.new.rows c.requires.served n drove m row
+    can_answer x (holders_from cycles 0 (length x.children)) cycles c.args.ports.now.items c.drive_all.new.rows c.requires.served n drove m row
     (subst (λ rows. slice_get rows m ≡ Some row) c.tick.ensures.rows g) p f

@@ -1,5 +1,5 @@
 -- The port requests an operation of the bus.
-use Rattle.std.proofs.Common.{refl, sym, subst}
+use Rattle.std.proofs.Common.{◌∷◌, [], Some, refl, sym, subst}
 use Rattle.eb_base.specs.declared.width.Width.TheVariants.{W32}
 use Rattle.wb_signals.specs.Request.{Request}
 use Rattle.wb_signals.specs.Cycles.{FitsBus}
@@ -13,7 +13,7 @@ tick-requires-clause-can c =
     let s = c.requires.shared in
     let op : Request = record { write = c.op.inside.write; adr = c.op.inside.adr; dat = c.op.inside.dat; sel = c.op.inside.sel } in
     let fits : FitsBus c.args.crossbar.now.width op = subst (λ w. FitsBus w op) (sym s.width) (subst (λ r. FitsBus W32 r) (sym c.op.view_is) c.requires.fits) in
-    can_tick (crossbar_of node_slave c.args.crossbar.now) _ _ _ op refl refl s.ports s.slaves refl c.op.invariant fits
+    (Some 0 ∷ [], can_tick (crossbar_of node_slave c.args.crossbar.now) _ _ _ op refl refl s.ports s.slaves refl c.op.invariant fits)
 
 pub returns : goal.returns
 returns c = record { shared = still_shared c.args.crossbar.now c.tick.new.self _ c.requires.shared refl c.tick.ensures.crossbar c.tick.ensures.sound }

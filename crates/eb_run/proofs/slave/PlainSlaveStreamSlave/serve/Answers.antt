@@ -1,6 +1,6 @@
 use Rattle.std.proofs.Common.{ap}
 use Rattle.eb_run.proofs.SlaveLemmas.{served_on}
-use Rattle.eb_run.proofs.slave.PlainSlave.serve.Goals as goal
+use Rattle.eb_run.proofs.slave.PlainSlaveStreamSlave.serve.Goals as goal
 
 pub returns : goal.returns
 returns g c = record {
