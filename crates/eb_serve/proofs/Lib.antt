@@ -1,3 +1,4 @@
 pub mod SeatLemmas
 pub mod LineLemmas
 pub mod UncleanLemmas
+pub mod AloneLemmas

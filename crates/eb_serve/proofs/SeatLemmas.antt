@@ -1,6 +1,6 @@
 -- Lanes as they are made, served and taken apart.
-use Rattle.std.proofs.Common.{◌≡◌, ℕ, ◌+◌, ◌<◌, ◌≤◌, List, [], ◌∷◌, ◌++◌, length, map, get_or, Some, Option, refl, sym, ap, ◌∙◌, subst, arith, length-append, false}
-use Rattle.std.specs.Prelude.{All, IsSome}
+use Rattle.std.proofs.Common.{◌≡◌, ℕ, ◌<◌, ◌≤◌, List, [], ◌∷◌, ◌++◌, length, map, get_or, Some, Option, refl, sym, ap, ◌∙◌, subst, arith}
+use Rattle.std.specs.Prelude.{All}
 use Rattle.std.proofs.lemmas.List.{get_or_at, get_or-map, length-map, map-append}
 use Rattle.atomic_table.specs.Seated.{TableId}
 use Rattle.wb_signals.specs.Cycles.{MasterCycles}
@@ -81,7 +81,7 @@ kept_more lanes lane doors doors' passes passes' ports ports' kept f p q = recor
 -- ---- lanes served
 
 -- what a pass without a cycle tells
-pass_tells : (turn : TableId) (p : PassView BusState) (pass : Option (PassView BusState)) (i : ℕ) (journal : List Entry) → Some p ≡ pass → IsThere turn pass → number_told pass ≡ i
+pub pass_tells : (turn : TableId) (p : PassView BusState) (pass : Option (PassView BusState)) (i : ℕ) (journal : List Entry) → Some p ≡ pass → IsThere turn pass → number_told pass ≡ i
     → own p.number journal ≡ made_by p → cycles_told pass ≡ has_made (own i journal)
 pass_tells turn p pass i journal is there number mine =
     let here : p.number ≡ i = ap number_told is ∙ number in

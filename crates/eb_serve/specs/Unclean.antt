@@ -31,3 +31,14 @@ this_or (Some u) rest = Some u
 abbrev pub first_unclean_port : List EndsState → Option Unclean
 first_unclean_port [] = None
 first_unclean_port (ends ∷ ports) = this_or (unclean_port ends) (first_unclean_port ports)
+
+-- ---- of datagrams
+
+abbrev pub ending_or : Ending → Option Ending → Option Ending
+ending_or ending.Clean rest = rest
+ending_or e rest = Some e
+
+-- the first ending that isn't clean
+abbrev pub first_unclean_of : List Ending → Option Ending
+first_unclean_of [] = None
+first_unclean_of (e ∷ endings) = ending_or e (first_unclean_of endings)

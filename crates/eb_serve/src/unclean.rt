@@ -1,8 +1,8 @@
-//! What decides how served ports are told as a whole.
+//! What decides how served ports, and datagrams, are told as a whole.
 ghost use Rattle.std.specs.Prelude.{◌≡◌};
-ghost use Rattle.eb_serve.specs.Unclean.{unclean_port, first_unclean_port};
+ghost use Rattle.eb_serve.specs.Unclean.{unclean_port, first_unclean_port, first_unclean_of};
 
-use crate::served::ServedPorts;
+use crate::served::{ServedDatagrams, ServedPorts};
 use eb_ports::Ends;
 use eb_server::Ending;
 
@@ -41,5 +41,27 @@ impl ServedPorts {
             }
         }
         None
+    }
+}
+
+// The first of these endings that isn't clean.
+fn first_unclean(ends: &Ends) -> Option<Ending>
+    ensures first { result ≡ first_unclean_of ends.now.endings }
+{
+    for i in 0..ends.count() {
+        let end = ends.ending(i);
+        if end != Ending::Clean {
+            return Some(end);
+        }
+    }
+    None
+}
+
+impl ServedDatagrams {
+    /// The first ending that isn't clean, in the order of the datagrams. `None` where all ended clean.
+    pub fn first_unclean(&self) -> Option<Ending>
+        ensures first { result ≡ first_unclean_of self.now.ends.endings }
+    {
+        first_unclean(&self.ends)
     }
 }

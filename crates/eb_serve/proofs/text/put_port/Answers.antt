@@ -1,4 +1,4 @@
-use Rattle.std.proofs.Common.{◌≡◌, ◌++◌, ap, refl}
+use Rattle.std.proofs.Common.{◌++◌, ap, refl}
 use Rattle.eb_io.proofs.PageLemmas.{wrong_first_paged, paged_both}
 use Rattle.eb_serve.specs.Text.{connection_lines, fault_lines, port_text}
 use Rattle.eb_serve.proofs.text.put_port.Goals as goal
