@@ -1,7 +1,7 @@
 -- Words that are no task, and words that are one.
 use Rattle.std.proofs.Common.{◌≡◌, ◌≢◌, ℕ, ◌≤◌, List, [], ◌∷◌, codes, sym, ◌∙◌, ap, subst}
 use Rattle.eb_text.specs.Command.{Says, decimal_value}
-use Rattle.eb_serving.specs.ServingWords.{ServingAsk, PortsTask, AreAsk, OneServing}
+use Rattle.eb_serving.specs.ServingWords.{ServingAsk, PortsTask, PostTask, AreAsk, IsNoServing, OneServing}
 
 -- ---- words that ask for nothing
 
@@ -41,5 +41,19 @@ module _ (first : List ℕ) (words : List (List ℕ)) (ask other : ServingAsk) (
       let count : ask.count ≡ other.count = x.says_count.number ∙ ap decimal_value count_word ∙ sym y.says_count.number in
       λ i. record { description = name i; port = port i; count = count i }
 
+-- words begin with one word
+pub one_first : (first second : List ℕ) (words : List (List ℕ)) (ask other : ServingAsk) → AreAsk first words ask → AreAsk second words other → first ≡ second
+one_first first second words ask other x y = let same = sym x.words_are ∙ y.words_are in let word : first ≡ second = cc same in word
+
+unlike : codes "serve" ≢ codes "serve-udp"
+unlike same = cc same
+
+pub no_serving : (words : List (List ℕ)) → ((ask : ServingAsk) → AreAsk (codes "serve") words ask → ⊥) → ((ask : ServingAsk) → AreAsk (codes "serve-udp") words ask → ⊥) → IsNoServing words
+no_serving words ports post (PortsTask ask) x = ports ask x
+no_serving words ports post (PostTask ask) x = post ask x
+
 pub one_serving : OneServing
 one_serving words (PortsTask ask) (PortsTask other) x y = ap PortsTask (one_ask (codes "serve") words ask other x y)
+one_serving words (PostTask ask) (PostTask other) x y = ap PostTask (one_ask (codes "serve-udp") words ask other x y)
+one_serving words (PortsTask ask) (PostTask other) x y = absurd (unlike (one_first (codes "serve") (codes "serve-udp") words ask other x y))
+one_serving words (PostTask ask) (PortsTask other) x y = absurd (unlike (sym (one_first (codes "serve-udp") (codes "serve") words ask other x y)))

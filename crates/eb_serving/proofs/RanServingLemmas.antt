@@ -11,7 +11,7 @@ use Rattle.eb_net.specs.Network.{Network}
 use Rattle.eb_server.specs.declared.ending.Ending.{Ending}
 use Rattle.eb_server.specs.declared.ending.Ending.TheVariants as ending
 use Rattle.eb_ports.specs.Ends.{EndsState}
-use Rattle.eb_serve.specs.Unclean.{connection_or, connections_or, unclean_door, unclean_port, this_or, first_unclean_port}
+use Rattle.eb_serve.specs.Unclean.{connection_or, connections_or, unclean_door, unclean_port, this_or, first_unclean_port, ending_or, first_unclean_of}
 use Rattle.eb_serve.specs.declared.unclean.Unclean.{Unclean}
 use Rattle.eb_serve.specs.declared.unclean.Unclean.TheVariants as unclean
 use Rattle.eb_text.specs.declared.status.Status.{Status}
@@ -21,8 +21,8 @@ use Rattle.eb_text.specs.declared.fault.Fault.TheVariants as fault
 use Rattle.eb_run.specs.Files.{IsDescribed, ReadsDescription}
 use Rattle.eb_serving.specs.declared.fault.ServingFault.{ServingFault}
 use Rattle.eb_serving.specs.declared.fault.ServingFault.TheVariants as serving
-use Rattle.eb_serving.specs.ServingWords.{ServingAsk, ServingTask, PortsTask, IsServingTask, IsNoServing}
-use Rattle.eb_serving.specs.RanServing.{ServingRun, LeavesPorts, served_answer, ServesPorts, ServingComesTo, ServingWordsComeTo, serving_status_for, door_status, TellsServing, CameServing, CameServingBy, HasNoPorts, asked_for, RanServing}
+use Rattle.eb_serving.specs.ServingWords.{ServingAsk, ServingTask, PortsTask, PostTask, IsServingTask, IsNoServing}
+use Rattle.eb_serving.specs.RanServing.{ServingRun, LeavesPorts, served_answer, unclean_datagram, ServesPorts, ServesPost, ServingComesTo, ServingWordsComeTo, serving_status_for, door_status, TellsServing, CameServing, CameServingBy, HasNoPorts, asked_for, RanServing}
 use Rattle.eb_serving.proofs.AskLemmas.{one_serving}
 use Rattle.eb_serving.proofs.DoorLemmas.{stopped_asked}
 use Rattle.eb_serving.proofs.ServingStatusLemmas.{Has, MayShare, MayTell, MayCome, Known, known, known_usage, IsOther}
@@ -54,6 +54,19 @@ may_first : (ports : List EndsState) → MayTell (first_unclean_port ports)
 may_first [] = tt
 may_first (ends ∷ ports) =
     may_this (unclean_port ends) (first_unclean_port ports) (may_connections ends.endings (unclean_door ends.door_failed) (may_door ends.door_failed)) (may_first ports)
+
+may_datagram : (e : Ending) (rest : Option Ending) → MayTell (unclean_datagram rest) → MayTell (unclean_datagram (ending_or e rest))
+may_datagram ending.Clean rest may = may
+may_datagram (ending.Truncated n) rest may = tt
+may_datagram (ending.Malformed place why) rest may = tt
+may_datagram ending.ReadFault rest may = tt
+may_datagram ending.WriteFault rest may = tt
+may_datagram ending.TooLong rest may = tt
+may_datagram ending.NoMemory rest may = tt
+
+may_datagrams : (endings : List Ending) → MayTell (unclean_datagram (first_unclean_of endings))
+may_datagrams [] = tt
+may_datagrams (e ∷ endings) = may_datagram e (first_unclean_of endings) (may_datagrams endings)
 
 may_answer : (first : Option Unclean) (wrote : Result ⊤ WriteFault) → MayTell first → MayCome (served_answer first wrote)
 may_answer None (Ok done) may = tt
@@ -94,8 +107,23 @@ module _ {F D P L : Type 0} (run : ServingRun F D P L) (words : List (List ℕ))
   comes_ports is_serving (inl (f, is, reads, leaves)) = inl (subst MayCome (sym is) (may_read run.reading run.world run.world' ask.description f reads))
   comes_ports is_serving (inr (d, read, serves)) = comes_served is_serving d read serves
 
+  comes_posted : (d : Description) → ServesPost run.ports d ask r → MayCome r
+  comes_posted d (inl (f, is, unmade, out)) = elim unmade [
+    | inl failed ↦ subst MayCome (sym is) (subst (λ (x : ServingFault). MayCome (Err x)) (sym failed.0) tt)
+    | inr none ↦ subst MayCome (sym is) (subst (λ (x : ServingFault). MayCome (Err x)) (sym none.0) tt)
+  ]
+  comes_posted d (inr served) = elim served.came [
+    | inl none ↦ subst MayCome (sym none.0) tt
+    | inr (ran, serves, tells) ↦ subst MayCome (sym tells.2) (may_answer (unclean_datagram (first_unclean_of ran.ends.endings)) tells.0 (may_datagrams ran.ends.endings))
+  ]
+
+  comes_post : ServingComesTo run (PostTask ask) r → MayCome r
+  comes_post (inl (f, is, reads, leaves)) = subst MayCome (sym is) (may_read run.reading run.world run.world' ask.description f reads)
+  comes_post (inr (d, read, serves)) = comes_posted d serves
+
 comes_of : {F D P L : Type 0} (run : ServingRun F D P L) (words : List (List ℕ)) (task : ServingTask) (r : Result (Option Unclean) ServingFault) → IsServingTask words task → ServingComesTo run task r → Comes run words r
 comes_of run words (PortsTask ask) r is_serving comes = comes_ports run words ask r is_serving comes
+comes_of run words (PostTask ask) r is_serving comes = inl (comes_post run words ask r comes)
 
 -- ---- what was asked for
 
@@ -112,9 +140,21 @@ asked_ports run ask d r (inr (inl (enough, f, is, stops, out))) = stopped_asked 
 asked_ports run ask d r (inr (inr (enough, served))) =
     (d.masters, ap (λ (n : Network _ _ _). n.asked) served.net_is ∙ ap (λ (n : Network _ _ _). n.asked) served.making.net_is)
 
+asked_nothing_more : {F D P L : Type 0} (run : ServingRun F D P L) (ask : ServingAsk) → run.ports.net' ≡ run.ports.net → Asks run (PostTask ask)
+asked_nothing_more run ask same = (0, ap (λ (n : Network _ _ _). n.asked) same ∙ sym (append-nil run.ports.net.asked))
+
+asked_post : {F D P L : Type 0} (run : ServingRun F D P L) (ask : ServingAsk) (d : Description) (r : Result (Option Unclean) ServingFault) → ServesPost run.ports d ask r → Asks run (PostTask ask)
+asked_post run ask d r (inl (f, is, unmade, out)) = elim unmade [
+  | inl failed ↦ (1, ap (λ (n : Network _ _ _). n.asked) failed.1.counted)
+  | inr none ↦ asked_nothing_more run ask none.1
+]
+asked_post run ask d r (inr served) = (1, ap (λ (n : Network _ _ _). n.asked) served.net_is ∙ ap (λ (n : Network _ _ _). n.asked) served.making.made)
+
 asked_by : {F D P L : Type 0} (run : ServingRun F D P L) (task : ServingTask) (r : Result (Option Unclean) ServingFault) → ServingComesTo run task r → Asks run task
 asked_by run (PortsTask ask) r (inl (f, is, reads, leaves)) = asked_nothing run ask leaves.0
 asked_by run (PortsTask ask) r (inr (d, read, serves)) = asked_ports run ask d r serves
+asked_by run (PostTask ask) r (inl (f, is, reads, leaves)) = asked_nothing_more run ask leaves.0
+asked_by run (PostTask ask) r (inr (d, read, serves)) = asked_post run ask d r serves
 
 -- ---- the fields of a run
 

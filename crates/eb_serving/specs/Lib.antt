@@ -1,4 +1,5 @@
 pub mod ServingWords
 pub mod ServingLines
 pub mod Doors
+pub mod Posts
 pub mod RanServing

@@ -1,5 +1,5 @@
 -- What a run of a server's words met and did.
-use Rattle.std.specs.Prelude.{◌≡◌, ◌⊎◌, ◌<◌, ◌≤◌, ℕ, ◌+◌, List, [], ◌∷◌, ◌++◌, Contains, Option, Some, None, Result, Ok, Err, ⊤}
+use Rattle.std.specs.Prelude.{◌≡◌, ◌⊎◌, ◌<◌, ◌≤◌, ℕ, zero, suc, ◌+◌, List, [], ◌∷◌, ◌++◌, Contains, Option, Some, None, Result, Ok, Err, ⊤}
 use Rattle.eb_io.specs.Reading.{Reading}
 use Rattle.eb_io.specs.Writing.{Writing, WritesAll}
 use Rattle.eb_io.specs.Outside.{Outside}
@@ -8,11 +8,15 @@ use Rattle.eb_codec.specs.declared.item.Why.{Why}
 use Rattle.soc_desc.specs.declared.description.Description.{Description}
 use Rattle.soc_desc.specs.declared.fault.DescFault.{DescFault}
 use Rattle.eb_net.specs.Accepting.{DoorState}
-use Rattle.eb_net.specs.Network.{Network, Wanted}
+use Rattle.eb_net.specs.Posting.{Posting}
+use Rattle.eb_net.specs.Network.{Network, Wanted, post_at}
+use Rattle.eb_server.specs.declared.ending.Ending.{Ending}
 use Rattle.eb_server.specs.declared.ending.Ending.TheVariants as ending
 use Rattle.eb_serve.specs.Serves.{ServeState, Serves}
 use Rattle.eb_serve.specs.Text.{serve_text}
-use Rattle.eb_serve.specs.Unclean.{first_unclean_port}
+use Rattle.eb_serve.specs.Datagrams.{PostState, ServesDatagrams}
+use Rattle.eb_serve.specs.DatagramText.{datagrams_text}
+use Rattle.eb_serve.specs.Unclean.{first_unclean_port, first_unclean_of}
 use Rattle.eb_serve.specs.declared.unclean.Unclean.{Unclean}
 use Rattle.eb_serve.specs.declared.unclean.Unclean.TheVariants as unclean
 use Rattle.eb_text.specs.declared.status.Status.{Status}
@@ -23,20 +27,22 @@ use Rattle.eb_run.specs.Files.{ReadsDescription}
 use Rattle.eb_run.specs.Top.{ending_status}
 use Rattle.eb_serving.specs.declared.fault.ServingFault.{ServingFault}
 use Rattle.eb_serving.specs.declared.fault.ServingFault.TheVariants as serving
-use Rattle.eb_serving.specs.ServingWords.{ServingAsk, ServingTask, PortsTask, IsServingTask, IsNoServing}
+use Rattle.eb_serving.specs.ServingWords.{ServingAsk, ServingTask, PortsTask, PostTask, IsServingTask, IsNoServing}
 use Rattle.eb_serving.specs.ServingLines.{serving_status, serving_line}
 use Rattle.eb_serving.specs.Doors.{doors_at, MadeDoors, StopsAtDoor}
+use Rattle.eb_serving.specs.Posts.{MadePost, NoPostMade}
 
--- What a server meets and leaves by its ports: what doors tell, and the net and the output before and after it.
+-- What a server meets and leaves by its ports: what doors and a post tell, and the net and the output before and after it.
 pub record PortRun (D P L : Type 0) : Type 0 where
   pub state : D → DoorState
+  pub posting : P → Posting
   pub net : Network D P L
   pub net' : Network D P L
   pub out : Writing
   pub out' : Writing
 
-abbrev pub port_run : {D P L : Type 0} → (D → DoorState) → Network D P L → Network D P L → Writing → Writing → PortRun D P L
-port_run state net net' out out' = record { state = state; net = net; net' = net'; out = out; out' = out' }
+abbrev pub port_run : {D P L : Type 0} → (D → DoorState) → (P → Posting) → Network D P L → Network D P L → Writing → Writing → PortRun D P L
+port_run state posting net net' out out' = record { state = state; posting = posting; net = net; net' = net'; out = out; out' = out' }
 
 -- Besides that, what files tell, and the world before and after it.
 pub record ServingRun (F D P L : Type 0) : Type 0 where
@@ -83,11 +89,36 @@ ServesPorts run d ask result =
     ⊎ ((ask.port + d.masters ≤ 65536) × (f : ServingFault) × (result ≡ Err f) × StopsAtDoor run.state run.net run.net' ask.port d.masters f × (run.out' ≡ run.out))
     ⊎ ((ask.port + d.masters ≤ 65536) × ServedDoors run d ask result)
 
--- What a task came to: its description could not be read, and neither the net nor the output was touched; or its ports were served.
+-- the first datagram that didn't end clean is told like a connection
+abbrev pub unclean_datagram : Option Ending → Option Unclean
+unclean_datagram None = None
+unclean_datagram (Some e) = Some (unclean.Connection e)
+
+-- The post was made, and stands in the net. There was no memory to serve it, and it is new and nothing was written; or it was served
+-- on the bus of the description by the master 0, and the text of that went out.
+pub record ServedOwnPost {D P L : Type 0} (run : PortRun D P L) (d : Description) (ask : ServingAsk) (result : Result (Option Unclean) ServingFault) : Type 0 where
+  pub between : Network D P L
+  pub making : MadePost run.posting run.net between ask.port
+  pub post : P
+  pub net_is : run.net' ≡ record between { post = Some post }
+  pub came : ((result ≡ Err (serving.Common fault.NoMemory)) × (post ≡ making.post) × (run.out' ≡ run.out))
+      ⊎ ((r : PostState) × ServesDatagrams d ask.count (run.posting making.post) (run.posting post) r
+      × TellsServed run.out run.out' (datagrams_text r) (unclean_datagram (first_unclean_of r.ends.endings)) result)
+
+-- What serving a post on a described bus came to: it could not be made, and nothing was written; or it was served.
+abbrev pub ServesPost : {D P L : Type 0} → PortRun D P L → Description → ServingAsk → Result (Option Unclean) ServingFault → Type 0
+ServesPost run d ask result =
+    ((f : ServingFault) × (result ≡ Err f) × NoPostMade run.net run.net' ask.port f × (run.out' ≡ run.out)) ⊎ ServedOwnPost run d ask result
+
+-- What a task came to: its description could not be read, and neither the net nor the output was touched; or its ports
+-- or its post were served.
 abbrev pub ServingComesTo : {F D P L : Type 0} → ServingRun F D P L → ServingTask → Result (Option Unclean) ServingFault → Type 0
 ServingComesTo run (PortsTask ask) result =
     ((f : Fault) × (result ≡ Err (serving.Common f)) × ReadsDescription run.reading run.world run.world' ask.description (Err f) × LeavesPorts run.ports)
     ⊎ ((d : Description) × ReadsDescription run.reading run.world run.world' ask.description (Ok d) × ServesPorts run.ports d ask result)
+ServingComesTo run (PostTask ask) result =
+    ((f : Fault) × (result ≡ Err (serving.Common f)) × ReadsDescription run.reading run.world run.world' ask.description (Err f) × LeavesPorts run.ports)
+    ⊎ ((d : Description) × ReadsDescription run.reading run.world run.world' ask.description (Ok d) × ServesPost run.ports d ask result)
 
 -- Words are no task, and nothing was touched; or a task ran.
 abbrev pub ServingWordsComeTo : {F D P L : Type 0} → ServingRun F D P L → List (List ℕ) → Result (Option Unclean) ServingFault → Type 0
@@ -147,6 +178,8 @@ pub record EndedServing {F D P L : Type 0} (run : ServingRun F D P L) (err err' 
 -- what a task asks the net for, where it asks so often
 abbrev pub asked_for : ServingTask → ℕ → List Wanted
 asked_for (PortsTask ask) n = doors_at ask.port n
+asked_for (PostTask ask) zero = []
+asked_for (PostTask ask) (suc n) = post_at ask.port ∷ []
 
 -- A run of a server's words on a world, a net, an output and standard error, which ended with this status.
 pub record RanServing {F D P L : Type 0} (run : ServingRun F D P L) (err err' : Writing) (words : List (List ℕ)) (ended : Status) : Type 0 where
@@ -158,23 +191,24 @@ pub record RanServing {F D P L : Type 0} (run : ServingRun F D P L) (err err' : 
   pub no_task : IsNoServing words → ended ≡ status.USAGE
   -- The file of the description was read, and this is its first fault.
   pub description : ended ≡ status.DESCRIPTION → (f : DescFault) × CameServing run err err' words (Err (serving.Common (fault.Description f)))
-  -- An open or a read of the description failed; or a read of a connection, the first that didn't end clean.
+  -- An open or a read of the description failed; or a read of a connection, or a receive of a datagram, the first that didn't end clean.
   pub read_fault : ended ≡ status.READ_FAULT → CameServingBy run err err' words (serving.Common fault.ReadFault) (unclean.Connection ending.ReadFault)
-  -- A write of the output failed; or one to a connection, the first that didn't end clean.
+  -- A write of the output failed; or one to a connection, or a send of a datagram, the first that didn't end clean.
   pub write_fault : ended ≡ status.WRITE_FAULT → CameServingBy run err err' words (serving.Common fault.WriteFault) (unclean.Connection ending.WriteFault)
-  -- A connection has its first bad octet at this place, and is the first that didn't end clean.
+  -- A connection or datagram has its first bad octet at this place, and is the first that didn't end clean.
   pub malformed : ended ≡ status.MALFORMED → (place : ℕ) × (why : Why) × CameServing run err err' words (Ok (Some (unclean.Connection (ending.Malformed place why))))
-  -- A connection ended inside an item, of which so many octets had come, and is the first that didn't end clean.
+  -- A connection or datagram ended inside an item, of which so many octets had come, and is the first that didn't end clean.
   pub truncated : ended ≡ status.TRUNCATED → (count : ℕ) × CameServing run err err' words (Ok (Some (unclean.Connection (ending.Truncated count))))
   -- As many octets of a connection were read as are served of one, and it is the first that didn't end clean.
   pub too_long : ended ≡ status.TOO_LONG → CameServing run err err' words (Ok (Some (unclean.Connection ending.TooLong)))
-  -- A door could not be made; or an accept failed, and all of the port before it and of the ports before it ended clean.
+  -- A door or the post could not be made; or an accept failed, and all of the port before it and of the ports before it ended clean.
   pub door : ended ≡ door_status → CameServingBy run err err' words serving.Door unclean.Door
-  -- There was no memory to go on; or none for a connection, the first that didn't end clean.
+  -- There was no memory to go on; or none for a connection or datagram, the first that didn't end clean.
   pub no_memory : ended ≡ status.NO_MEMORY → CameServingBy run err err' words (serving.Common fault.NoMemory) (unclean.Connection ending.NoMemory)
   -- There is no other status.
   pub listed : Contains (0 ∷ 2 ∷ 3 ∷ 4 ∷ 5 ∷ 6 ∷ 7 ∷ 8 ∷ 12 ∷ 13 ∷ []) ended.0
-  -- The net was asked for doors at the ports of the task, from the first on, in order, and for nothing else.
+  -- The net was asked for doors at the ports of the task, from the first on, in order, or once for a post at its port, and for
+  -- nothing else.
   pub asked : (task : ServingTask) → IsServingTask words task → (n : ℕ) × (run.ports.net'.asked ≡ run.ports.net.asked ++ asked_for task n)
   -- What the words came to; the status is of that, and standard error gets the line of its fault, all of it unless a write there
   -- fails, and nothing where there is none or the output tells how the streams ended.

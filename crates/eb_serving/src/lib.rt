@@ -12,6 +12,7 @@
 //! - `lines`: the lines that tell how a command ended
 //! - `doors`: doors made at ports, and served
 //! - `ports`: the command `serve`
+//! - `posts`: the command `serve-udp`
 //! - `around`: what a server meets
 //! - `run`: the top call
 //! - `laws`: what holds of all words
@@ -25,10 +26,11 @@ pub mod laws;
 mod lines;
 mod numbers;
 mod ports;
+mod posts;
 mod run;
 
 pub use around::Around;
-pub use command::{Asked, serving_of};
+pub use command::{Asked, Serving, serving_of};
 pub use fault::ServingFault;
 pub use lines::write_serving_line;
 pub use run::run_serving;

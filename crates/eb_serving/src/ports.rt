@@ -27,7 +27,7 @@ const PORTS: u32 = 65_536;
 
 // What a command answers that tells what first didn't end clean. A failed write is the answer only where all ended
 // clean.
-fn answer_of(
+pub fn answer_of(
     first: Option<Unclean>,
     wrote: Result<(), WriteFault>,
 ) -> Result<Option<Unclean>, ServingFault>
@@ -65,7 +65,7 @@ where
     requires accepted { IsAccepted description.now }
     ensures serves { ServesPorts
         (port_run (door_told N.Door.Link.reading N.Door.Link.writing N.Door.standing N.Door.accepting)
-        (N.network net.old) (N.network net.new) (O.writing out.old) (O.writing out.new))
+        N.Post.posting (N.network net.old) (N.network net.new) (O.writing out.old) (O.writing out.new))
         description.now (ask_seen asked.entry) result }
 {
     if u32::from(asked.port) + u32::from(description.masters) > PORTS {
@@ -91,7 +91,7 @@ where
     ensures comes_to { ServingComesTo
         (serving_run W.File.reading (W.outside around.old.world) (W.outside around.new.world)
         (port_run (door_told N.Door.Link.reading N.Door.Link.writing N.Door.standing N.Door.accepting)
-        (N.network around.old.net) (N.network around.new.net) (O.writing out.old) (O.writing out.new)))
+        N.Post.posting (N.network around.old.net) (N.network around.new.net) (O.writing out.old) (O.writing out.new)))
         (PortsTask (ask_seen asked.entry)) result }
 {
     let description = read_description(alloc, asked.description, &mut around.world)?;

@@ -4,10 +4,11 @@ ghost use Rattle.eb_ports.specs.Connections.{door_told};
 ghost use Rattle.eb_serving.specs.RanServing.{port_run, serving_run, serving_status_for, unclean_status, RanServing, ServingWordsComeTo, TellsServing};
 
 use crate::around::Around;
-use crate::command::serving_of;
+use crate::command::{Serving, serving_of};
 use crate::fault::{DOOR, ServingFault};
 use crate::lines::write_serving_line;
 use crate::ports::serve_ports;
+use crate::posts::answer_datagrams;
 use eb_io::{Sink, World};
 use eb_net::{Door, Net};
 use eb_run::ending_status;
@@ -30,12 +31,13 @@ where
     ensures comes_to { ServingWordsComeTo
         (serving_run W.File.reading (W.outside around.old.world) (W.outside around.new.world)
         (port_run (door_told N.Door.Link.reading N.Door.Link.writing N.Door.standing N.Door.accepting)
-        (N.network around.old.net) (N.network around.new.net) (O.writing out.old) (O.writing out.new)))
+        N.Post.posting (N.network around.old.net) (N.network around.new.net) (O.writing out.old) (O.writing out.new)))
         (map string_bytes words.now) result }
 {
     match serving_of(words) {
         None => Err(ServingFault::Common(Fault::Usage)),
-        Some(asked) => serve_ports(rt, alloc, asked, around, out),
+        Some(Serving::Ports(asked)) => serve_ports(rt, alloc, asked, around, out),
+        Some(Serving::Post(asked)) => answer_datagrams(rt, alloc, asked, around, out),
     }
 }
 
@@ -68,6 +70,7 @@ fn tell<E: Sink>(ran: &Result<Option<Unclean>, ServingFault>, err: &mut E) -> St
 /// goes to `out`, and the line of its fault to `err`.
 ///
 /// Each port is served in a thread of its own, as one master of the described bus, and it waits until all are done.
+/// Datagrams are served by the master 0, and no thread is started.
 /// Where it returns, the clause `ran` holds. The doors that were made stand in the net then, behind those that it had,
 /// and so does the description's file in the world. How the connections ended stands in the output, and the first that
 /// didn't end clean gives the status, without a line. A fault in writing `err` changes no status.
@@ -89,7 +92,7 @@ where
     ensures ran { RanServing
         (serving_run W.File.reading (W.outside around.old.world) (W.outside around.new.world)
         (port_run (door_told N.Door.Link.reading N.Door.Link.writing N.Door.standing N.Door.accepting)
-        (N.network around.old.net) (N.network around.new.net) (O.writing out.old) (O.writing out.new)))
+        N.Post.posting (N.network around.old.net) (N.network around.new.net) (O.writing out.old) (O.writing out.new)))
         (E.writing err.old) (E.writing err.new) (map string_bytes words.now) result }
 {
     let ran = run_words(rt, alloc, words, around, out);

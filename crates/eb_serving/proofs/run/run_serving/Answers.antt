@@ -7,7 +7,7 @@ use Rattle.eb_serving.proofs.run.run_serving.Goals as goal
 pub returns : goal.returns
 returns g c =
     let told = door_told g.N.Door.Link.Source.reading g.N.Door.Link.Sink.writing g.N.Door.Door.standing g.N.Door.Door.accepting in
-    let ports = port_run told (g.N.Net.network c.args.around.now.net) (g.N.Net.network c.run_words-ran.new.around.net) (g.O.Sink.writing c.args.out.now) (g.O.Sink.writing c.run_words-ran.new.out) in
+    let ports = port_run told g.N.Post.Post.posting (g.N.Net.network c.args.around.now.net) (g.N.Net.network c.run_words-ran.new.around.net) (g.O.Sink.writing c.args.out.now) (g.O.Sink.writing c.run_words-ran.new.out) in
     let run = serving_run g.W.File.Source.reading (g.W.World.outside c.args.around.now.world) (g.W.World.outside c.run_words-ran.new.around.world) ports in
     record {
       ran =
