@@ -4,14 +4,19 @@ ghost use Rattle.eb_ports.specs.Ends.{no_ends};
 
 use crate::heard::Heard;
 use eb_base::{Octets, Width};
+use eb_io::MemSink;
 use eb_net::MemPost;
 use eb_ports::{Ends, serve_post};
-use eb_samples::CAPTURE;
+use eb_samples::{CAPTURE, SOC};
+use eb_serve::{ServedDatagrams, serve_datagrams};
 use eb_server::Ending;
 use eb_session::Slave;
+use soc_desc::read;
 use soc_machine::{Machine, PlainMaster};
 use soc_trail::Unkept;
 use std::alloc::Global;
+use std::mem::forget;
+use std::sync::Wait;
 use std::test::Fail;
 
 // A probe.
@@ -93,5 +98,45 @@ fn faults_of_a_post(rt: HostRuntime) -> Result<(), Fail> {
     assert_eq!(rt; ends.ending(1), Ending::ReadFault);
     assert_eq!(rt; ends.ending(2), Ending::Clean);
     assert_eq!(rt; ends.ending(3), Ending::WriteFault);
+    Ok(())
+}
+
+// The text of served datagrams, which are let go.
+fn text_of(alloc: Global, served: ServedDatagrams) -> Result<MemSink, Fail> {
+    let mut out = MemSink::new(alloc, 256, 256, Vec::new(alloc)).ok().ok_or("sink")?;
+    let wrote = served.write(&mut out);
+    forget(served);
+    match wrote {
+        Ok(()) => Ok(out),
+        Err(_) => Err("text".into()),
+    }
+}
+
+// Serves four datagrams on the bus of SOC: the text of them, and the first ending that isn't clean.
+fn described<R: Wait>(
+    rt: &R,
+    alloc: Global,
+    heard: &mut Heard,
+) -> Result<(MemSink, Option<Ending>), Fail> {
+    let Ok(description) = read(alloc, SOC.as_bytes()) else {
+        return Err("description".into());
+    };
+    let Ok(served) = serve_datagrams(rt, alloc, &description, heard, 4) else {
+        return Err("memory".into());
+    };
+    let unclean = served.first_unclean();
+    Ok((text_of(alloc, served)?, unclean))
+}
+
+// The three datagrams on a described bus.
+#[test]
+fn datagrams_of_a_bus(rt: HostRuntime) -> Result<(), Fail> {
+    let mut heard = heard(rt.alloc(), &[], &[])?;
+    let (text, unclean) = described(&rt, rt.alloc(), &mut heard)?;
+    assert_eq!(rt; unclean, None);
+    assert_eq!(rt; heard.sent.as_slice(), SENT.as_slice());
+    assert_eq!(rt; text.octets(), b"datagram 0 clean\ndatagram 1 clean\ndatagram 2 clean\njournal\n\
+        cycle 0 whole\nw 0000000000000010 0F 00000000DEADBEEF ack\n\
+        cycle 0 whole\nr 0000000000000010 0F ack 00000000DEADBEEF\n".as_slice());
     Ok(())
 }
