@@ -103,7 +103,9 @@ fn faults_of_a_post(rt: HostRuntime) -> Result<(), Fail> {
 
 // The text of served datagrams, which are let go.
 fn text_of(alloc: Global, served: ServedDatagrams) -> Result<MemSink, Fail> {
-    let mut out = MemSink::new(alloc, 256, 256, Vec::new(alloc)).ok().ok_or("sink")?;
+    let mut out = MemSink::new(alloc, 256, 256, Vec::new(alloc))
+        .ok()
+        .ok_or("sink")?;
     let wrote = served.write(&mut out);
     forget(served);
     match wrote {
@@ -135,8 +137,12 @@ fn datagrams_of_a_bus(rt: HostRuntime) -> Result<(), Fail> {
     let (text, unclean) = described(&rt, rt.alloc(), &mut heard)?;
     assert_eq!(rt; unclean, None);
     assert_eq!(rt; heard.sent.as_slice(), SENT.as_slice());
-    assert_eq!(rt; text.octets(), b"datagram 0 clean\ndatagram 1 clean\ndatagram 2 clean\njournal\n\
+    assert_eq!(rt;
+        text.octets(),
+        b"datagram 0 clean\ndatagram 1 clean\ndatagram 2 clean\njournal\n\
         cycle 0 whole\nw 0000000000000010 0F 00000000DEADBEEF ack\n\
-        cycle 0 whole\nr 0000000000000010 0F ack 00000000DEADBEEF\n".as_slice());
+        cycle 0 whole\nr 0000000000000010 0F ack 00000000DEADBEEF\n"
+            .as_slice()
+    );
     Ok(())
 }
