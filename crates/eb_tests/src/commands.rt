@@ -80,7 +80,7 @@ fn run_alone(
 ) -> Status {
     match family_of(words) {
         Family::Plain => run_plain(alloc, words, world, out, err),
-        Family::Client | Family::Shared => Status::USAGE,
+        Family::Client | Family::Shared | Family::Serving => Status::USAGE,
     }
 }
 
