@@ -6,11 +6,13 @@
 //! stake and the charter are as it left them; who puts it back owes as much to the others.
 //!
 //! Masters are served in the order of their tickets. A master that waits yields to the other threads between two looks;
-//! the one that is next looks again at once, for some microseconds at most, before it does. That a turn ever comes is
-//! not claimed: who has taken the value may keep it.
+//! the one that is next looks again at once, for some microseconds at most, before it does. One that had its share of
+//! turns beside others rests before it draws its next ticket. That a turn ever comes is not claimed: who has taken the
+//! value may keep it.
 //!
 //! - `ledger`: what is told of such a value
 //! - `turn`: the turn, its root, passes and holds
+//! - `pace`: how a master spaces its turns
 //! - `close`: the end of a turn
 //! - `knows`: what a seat at the table knows
 //! - `plays`: the rule of the table, and the kinds of step
@@ -19,6 +21,7 @@
 mod close;
 mod knows;
 mod ledger;
+mod pace;
 mod plays;
 mod turn;
 

@@ -6,18 +6,13 @@ ghost use Rattle.soc_journal.specs.Ledger.{Follows, Adds};
 ghost use Rattle.soc_turn.specs.Roles.{number_of, made_of, is_root, is_pass, is_held};
 
 use crate::ledger::Ledgered;
+use crate::pace::Pace;
 use crate::plays::{Board, Draw, Give, Look, Place, Publish};
 use atomic_table::{Refused, Table};
 use std::alloc::{AllocFailed, Global};
-use std::hint::spin_loop;
 use std::marker::Model;
 use std::snapshot::Snapshot;
 use std::sync::Wait;
-use std::thread::yield_now;
-
-/// How often the master that is next looks again at once. A turn mostly takes no longer, and a thread that has yielded
-/// comes back late.
-const LOOKS: u8 = 200;
 
 /// A value that threads take in turns. Contracts see which turn it is, by its table.
 ///
@@ -74,6 +69,7 @@ impl<T: Ledgered> Model for Root<T> {
 #[derive(Drop)]
 pub struct Pass<T: Ledgered> {
     number: u8,
+    pace: Pace,
     seat: Place<T>,
     ghost waits: { is_pass seat.me ≡ true },
     ghost named: { number ≡ number_of seat.me.0 },
@@ -94,6 +90,7 @@ impl<T: Ledgered> Model for Pass<T> {
 /// would wait forever.
 pub struct Held<T: Ledgered> {
     number: u8,
+    pace: Pace,
     seat: Place<T>,
     ghost holds: { is_held seat.me ≡ true },
     ghost named: { number ≡ number_of seat.me.0 },
@@ -106,16 +103,6 @@ impl<T: Ledgered> Model for Held<T> {
     ghost Value = { HeldView T };
 
     ghost view = { λ h. record { turn = h.seat.table_id; number = h.number; taken = taken_of h.seat.me h.holds } };
-}
-
-/// Rests between two looks of a master that so many turns are before, and counts the looks that it took as the next.
-fn rest(before: u64, looks: u8) -> u8 {
-    if before == 1 && looks < LOOKS {
-        spin_loop();
-        return looks + 1;
-    }
-    yield_now();
-    looks
 }
 
 impl<T: Ledgered> Turn<T> {
@@ -163,11 +150,13 @@ impl<T: Ledgered> Turn<T> {
         let number = root.made;
         let seat = self.table.shared.split_seat::<Give>(&mut root.seat);
         root.made += 1;
-        Pass { number, seat }
+        let pace = Pace::new();
+        Pass { number, pace, seat }
     }
 
-    /// Waits for the pass's turn, and takes the value. It yields to the other threads between two looks, except that it
-    /// looks again at once, for some microseconds, when it is the next.
+    /// Waits for the pass's turn, and takes the value. It yields to the other threads between two looks, except that
+    /// it looks again at once, for some microseconds, when it is the next. A master that had some turns since it
+    /// rested, and had to wait for the last, first rests for 0.4 to 1.6 ms.
     ///
     /// The value's history extends what the pass has seen by entries of others, and the pass's stake and the charter
     /// are as it has seen them. The pass has become the hold, by which the value is put back.
@@ -176,17 +165,21 @@ impl<T: Ledgered> Turn<T> {
         ensures held { result.0 ≡ record { turn = self.now; number = pass.number; taken = result.1 } }
         ensures value { Follows T.history T.stake T.charter pass.number pass.last result.1 }
     {
-        let Pass { number, mut seat } = pass;
+        let Pass {
+            number,
+            mut pace,
+            mut seat,
+        } = pass;
         let shared = &self.table.shared;
+        pace.begin(rt, number);
         let ticket = shared.fetch_add::<Draw>(&mut seat, 0, 1);
-        let mut looks = 0;
         for _ in rt.forever() {
             let served = shared.load::<Look>(&mut seat, 1);
             if served == ticket {
                 let value = shared.exchange(&mut seat, 0, None).unwrap();
-                return (Held { number, seat }, value);
+                return (Held { number, pace, seat }, value);
             }
-            looks = rest(ticket.wrapping_sub(served), looks);
+            pace.wait(ticket.wrapping_sub(served));
         }
         unreachable!()
     }
@@ -200,12 +193,16 @@ impl<T: Ledgered> Turn<T> {
         requires adds { Adds T.history T.stake T.charter held.number held.taken value }
         ensures pass { result ≡ record { turn = self.now; number = held.number; last = value } }
     {
-        let Held { number, mut seat } = held;
+        let Held {
+            number,
+            pace,
+            mut seat,
+        } = held;
         let shared = &self.table.shared;
         let hole = shared.exchange(&mut seat, 0, Some(value));
         let None = hole else { unreachable!() };
         shared.fetch_add::<Publish>(&mut seat, 1, 1);
-        Pass { number, seat }
+        Pass { number, pace, seat }
     }
 
     /// The table of the turn.
@@ -246,7 +243,11 @@ impl<T: Ledgered> Pass<T> {
         ensures table { result.table_id ≡ self.turn }
         ensures me { result.me ≡ (Idle self.number self.last, []) }
     {
-        let Pass { number: _, seat } = self;
+        let Pass {
+            number: _,
+            pace: _,
+            seat,
+        } = self;
         seat
     }
 }
