@@ -23,7 +23,7 @@ use Rattle.eb_client.specs.ClientWords.{ClientTask, LsTask, ReadTask, WriteTask,
 use Rattle.eb_client.specs.Asking.{ShowsAnswer, answer_ending, host_ending, output_ending}
 use Rattle.eb_client.specs.Listed.{ShowsTree, walk_ending}
 use Rattle.eb_client.specs.Tasks.{DoesTask}
-use Rattle.eb_client.specs.RanClient.{ClientRun, dialled, TaskComesTo, ClientComesTo, client_status_for, TellsClient, CameClient, FoundNoDoor, RanClient, door_status, peer_status, bus_status, walk_status}
+use Rattle.eb_client.specs.RanClient.{ClientRun, dialled, TaskComesTo, ClientComesTo, client_status_for, TellsClient, CameClient, FoundNoDoor, RanClient}
 use Rattle.eb_client.proofs.TaskLemmas.{one_task}
 use Rattle.eb_client.proofs.ClientStatusLemmas.{Has, MayEnd, MayFail, Known, known, known_usage, known_door, IsOther, peer_other}
 
@@ -132,11 +132,11 @@ module _ {D P L O : Type 0} (run : ClientRun D P L O) (err err' : Writing) (word
     | inr (task, is_task, comes) ↦ absurd (none task is_task)
   ]
 
-  door : s ≡ door_status → FoundNoDoor run err err' words
+  door : s ≡ status.DOOR → FoundNoDoor run err err' words
   door same = elim come [
-    | inl refused ↦ absurd (subst IsOther (sym (has door_status same) ∙ refused.0) tt)
+    | inl refused ↦ absurd (subst IsOther (sym (has status.DOOR same) ∙ refused.0) tt)
     | inr (task, is_task, comes) ↦ elim (comes_of run task r comes) [
-      | inl may ↦ absurd (subst MayEnd (has door_status same) may)
+      | inl may ↦ absurd (subst MayEnd (has status.DOOR same) may)
       | inr failed ↦ record {
         task = task;
         is_task = is_task;
@@ -163,9 +163,9 @@ module _ {D P L O : Type 0} (run : ClientRun D P L O) (err err' : Writing) (word
     door = door;
     read_fault = λ same. came (Err (client.Common fault.ReadFault)) tt (has status.READ_FAULT same);
     write_fault = λ same. came (Err (client.Common fault.WriteFault)) tt (has status.WRITE_FAULT same);
-    peer = λ same. let f = has peer_status same in (f.0, f.1, came (Err f.0) (peer_other f.0 f.1) f.2);
-    bus_error = λ same. let f = has bus_status same in (f.0, came (Err (client.BusError f.0)) tt f.1);
-    walk = λ same. let f = has walk_status same in (f.0, f.1, came (Err (client.Walk f.0 f.1)) tt f.2);
+    peer = λ same. let f = has status.PEER same in (f.0, f.1, came (Err f.0) (peer_other f.0 f.1) f.2);
+    bus_error = λ same. let f = has status.BUS_ERROR same in (f.0, came (Err (client.BusError f.0)) tt f.1);
+    walk = λ same. let f = has status.WALK same in (f.0, f.1, came (Err (client.Walk f.0 f.1)) tt f.2);
     no_memory = λ same. came (Err (client.Common fault.NoMemory)) tt (has status.NO_MEMORY same);
     listed = known_so.1;
     asked = asked;

@@ -109,19 +109,6 @@ IsOfPeer (client.NoCommonWidth widths) = Unit {0}
 IsOfPeer (client.TooWide adr) = Unit {0}
 IsOfPeer f = ⊥
 
--- the statuses that a client alone has
-abbrev pub door_status : Status
-door_status = record { 0 = 8 }
-
-abbrev pub peer_status : Status
-peer_status = record { 0 = 9 }
-
-abbrev pub bus_status : Status
-bus_status = record { 0 = 10 }
-
-abbrev pub walk_status : Status
-walk_status = record { 0 = 11 }
-
 -- A run of a client's words on a net, an output and standard error, which ended with this status.
 pub record RanClient {D P L O : Type 0} (run : ClientRun D P L O) (err err' : Writing) (words : List (List ℕ)) (ended : Status) : Type 0 where
   -- The task was done, and all of its output was written. Standard error is as it was.
@@ -130,17 +117,17 @@ pub record RanClient {D P L O : Type 0} (run : ClientRun D P L O) (err err' : Wr
   pub usage : ended ≡ status.USAGE → IsNoTask words × (run.net' ≡ run.net) × (run.out' ≡ run.out)
   pub no_task : IsNoTask words → ended ≡ status.USAGE
   -- The address could not be dialled.
-  pub door : ended ≡ door_status → FoundNoDoor run err err' words
+  pub door : ended ≡ status.DOOR → FoundNoDoor run err err' words
   -- A read of the link failed.
   pub read_fault : ended ≡ status.READ_FAULT → CameClient run err err' words (Err (client.Common fault.ReadFault))
   -- A write to the link or of the output failed.
   pub write_fault : ended ≡ status.WRITE_FAULT → CameClient run err err' words (Err (client.Common fault.WriteFault))
   -- The host has this fault of what the peer answered.
-  pub peer : ended ≡ peer_status → (f : ClientFault) × IsOfPeer f × CameClient run err err' words (Err f)
+  pub peer : ended ≡ status.PEER → (f : ClientFault) × IsOfPeer f × CameClient run err err' words (Err f)
   -- The bus answered the access to this address with an error.
-  pub bus_error : ended ≡ bus_status → (adr : ℕ) × CameClient run err err' words (Err (client.BusError adr))
+  pub bus_error : ended ≡ status.BUS_ERROR → (adr : ℕ) × CameClient run err err' words (Err (client.BusError adr))
   -- The record at this address breaks this rule of the walk first.
-  pub walk : ended ≡ walk_status → (at : ℕ) × (why : WalkWhy) × CameClient run err err' words (Err (client.Walk at why))
+  pub walk : ended ≡ status.WALK → (at : ℕ) × (why : WalkWhy) × CameClient run err err' words (Err (client.Walk at why))
   -- There was no memory to go on.
   pub no_memory : ended ≡ status.NO_MEMORY → CameClient run err err' words (Err (client.Common fault.NoMemory))
   -- There is no other status.

@@ -8,14 +8,6 @@ use eb_io::WriteFault;
 use eb_text::{Fault, Status};
 use sdb_record::RecordFault;
 
-const DOOR: Status = Status(8);
-
-const PEER: Status = Status(9);
-
-const BUS_ERROR: Status = Status(10);
-
-const WALK: Status = Status(11);
-
 /// The rule of a walk through SDB tables that a record breaks.
 #[derive(Clone, Copy, Debug, PartialEq, Eq)]
 pub enum WalkWhy {
@@ -61,13 +53,13 @@ impl ClientFault {
     {
         match self {
             ClientFault::Common(fault) => fault.status(),
-            ClientFault::Door => DOOR,
+            ClientFault::Door => Status::DOOR,
             ClientFault::Ended(_)
             | ClientFault::BadReply(_)
             | ClientFault::NoCommonWidth(_)
-            | ClientFault::TooWide(_) => PEER,
-            ClientFault::BusError(_) => BUS_ERROR,
-            ClientFault::Walk(..) => WALK,
+            | ClientFault::TooWide(_) => Status::PEER,
+            ClientFault::BusError(_) => Status::BUS_ERROR,
+            ClientFault::Walk(..) => Status::WALK,
         }
     }
 }

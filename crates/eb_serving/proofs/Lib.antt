@@ -2,5 +2,10 @@ pub mod AskLemmas
 pub mod DoorLemmas
 pub mod ServedLemmas
 pub mod PostLemmas
+pub mod DecidingLemmas
+pub mod FineLemmas
+pub mod QuietDoorLemmas
+pub mod QuietPostLemmas
+pub mod QuietServingLemmas
 pub mod ServingStatusLemmas
 pub mod RanServingLemmas

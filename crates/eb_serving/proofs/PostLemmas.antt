@@ -12,7 +12,7 @@ use Rattle.eb_serving.specs.declared.fault.ServingFault.{ServingFault}
 use Rattle.eb_serving.specs.declared.fault.ServingFault.TheVariants as serving
 use Rattle.eb_serving.specs.ServingWords.{ServingAsk}
 use Rattle.eb_serving.specs.Posts.{MadePost, ServesNetPost}
-use Rattle.eb_serving.specs.RanServing.{PortRun, unclean_datagram, ServesPost, TellsServed}
+use Rattle.eb_serving.specs.ServingRuns.{PortRun, unclean_datagram, ServesPost, TellsServed}
 
 module _ {D P L : Type 0} (run : PortRun D P L) (d : Description) (ask : ServingAsk) (mid : Network D P L) (made : MadePost run.posting run.net mid ask.port) where
   same_post : (ran : Result PostState NoMemory) → (last : ServesNetPost run.posting d ask.count mid run.net' ran) → made.post ≡ last.post

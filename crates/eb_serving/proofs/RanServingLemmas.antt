@@ -1,5 +1,5 @@
 -- What the result of a server says of its status.
-use Rattle.std.proofs.Common.{◌≡◌, ◌⊎◌, inl, inr, ℕ, List, [], ◌∷◌, ◌++◌, Option, Some, None, Bool, true, false, Result, Ok, Err, sym, ◌∙◌, ap, subst}
+use Rattle.std.proofs.Common.{◌≡◌, ◌≢◌, ◌⊎◌, inl, inr, ℕ, List, [], ◌∷◌, ◌++◌, Option, Some, None, Bool, true, false, Result, Ok, Err, sym, ◌∙◌, ap, subst}
 use Rattle.std.specs.Prelude.{⊤}
 use Rattle.std.proofs.lemmas.List.{append-nil}
 use Rattle.eb_io.specs.Reading.{Reading}
@@ -14,16 +14,23 @@ use Rattle.eb_ports.specs.Ends.{EndsState}
 use Rattle.eb_serve.specs.Unclean.{connection_or, connections_or, unclean_door, unclean_port, this_or, first_unclean_port, ending_or, first_unclean_of}
 use Rattle.eb_serve.specs.declared.unclean.Unclean.{Unclean}
 use Rattle.eb_serve.specs.declared.unclean.Unclean.TheVariants as unclean
+use Rattle.eb_text.specs.Lines.{status_of}
 use Rattle.eb_text.specs.declared.status.Status.{Status}
 use Rattle.eb_text.specs.declared.status.TheConstants.Status as status
 use Rattle.eb_text.specs.declared.fault.Fault.{Fault}
 use Rattle.eb_text.specs.declared.fault.Fault.TheVariants as fault
 use Rattle.eb_run.specs.Files.{IsDescribed, ReadsDescription}
+use Rattle.eb_run.proofs.QuietLemmas.{one_description}
 use Rattle.eb_serving.specs.declared.fault.ServingFault.{ServingFault}
 use Rattle.eb_serving.specs.declared.fault.ServingFault.TheVariants as serving
 use Rattle.eb_serving.specs.ServingWords.{ServingAsk, ServingTask, PortsTask, PostTask, IsServingTask, IsNoServing}
-use Rattle.eb_serving.specs.RanServing.{ServingRun, LeavesPorts, served_answer, unclean_datagram, ServesPorts, ServesPost, ServingComesTo, ServingWordsComeTo, serving_status_for, door_status, TellsServing, CameServing, CameServingBy, HasNoPorts, asked_for, RanServing}
+use Rattle.eb_serving.specs.ServingRuns.{ServingRun, LeavesPorts, served_answer, unclean_datagram, ServesPorts, ServesPost, ServingComesTo, ServingWordsComeTo, serving_status_for, TellsServing}
+use Rattle.eb_serving.specs.RanServing.{CameServing, CameServingBy, HasNoPorts, asked_for, RanServing}
+use Rattle.eb_serving.specs.Deciding.{HoldsDescription, RefusesTask, AcceptsTask, ServesTask, BeganServing}
+use Rattle.eb_serving.specs.Quiet.{IsQuietServing}
 use Rattle.eb_serving.proofs.AskLemmas.{one_serving}
+use Rattle.eb_serving.proofs.DecidingLemmas.{MayServe, DecidedServing, decided_by, may_serve, not_accepted, one_refusal}
+use Rattle.eb_serving.proofs.QuietServingLemmas.{quiet_fine}
 use Rattle.eb_serving.proofs.DoorLemmas.{stopped_asked}
 use Rattle.eb_serving.proofs.ServingStatusLemmas.{Has, MayShare, MayTell, MayCome, Known, known, known_usage, IsOther}
 
@@ -206,12 +213,72 @@ module _ {F D P L : Type 0} (run : ServingRun F D P L) (err err' : Writing) (wor
     | inr (task, is_serving, comes) ↦ absurd (none task is_serving)
   ]
 
-  asked : (task : ServingTask) → IsServingTask words task → Asks run task
-  asked task is_serving = elim come [
+  -- what the task of the words came to
+  of_task : (task : ServingTask) → IsServingTask words task → ServingComesTo run task r
+  of_task task is_serving = elim come [
     | inl refused ↦ absurd (refused.1 task is_serving)
-    | inr (other, is_other, comes) ↦
-        asked_by run task r (subst (λ (x : ServingTask). ServingComesTo run x r) (one_serving words other task is_other is_serving) comes)
+    | inr (other, is_other, comes) ↦ subst (λ (x : ServingTask). ServingComesTo run x r) (one_serving words other task is_other is_serving) comes
   ]
+
+  module _ (text : List ℕ) (task : ServingTask) (holds : HoldsDescription run text) (is_serving : IsServingTask words task) where
+    so : DecidedServing run task text r
+    so = decided_by run text holds task r (of_task task is_serving)
+
+    none_so : r ≡ Err (serving.Common fault.NoMemory) → s ≡ status.NO_MEMORY
+    none_so same = is ∙ ap serving_status_for same
+
+    decided : (s ≡ status.NO_MEMORY) ⊎ (((f : Fault) × RefusesTask task text f × (s ≡ status_of f)) ⊎ ((d : Description) × AcceptsTask task text d × BeganServing run err err' task d s))
+    decided = elim so [
+      | inl none ↦ inl (none_so none.0)
+      | inr (inl (f, refuses, same, leaves)) ↦ inr (inl (f, refuses, is ∙ ap serving_status_for same))
+      | inr (inr (d, accepts, serves)) ↦ inr (inr (d, accepts, record { result = r; serves = serves; is = is; tells = tells }))
+    ]
+
+    refuses : (f : Fault) → RefusesTask task text f → ((s ≡ status_of f) ⊎ (s ≡ status.NO_MEMORY)) × LeavesPorts run.ports
+    refuses f by = elim so [
+      | inl none ↦ (inr (none_so none.0), none.1)
+      | inr (inl (g, other, same, leaves)) ↦
+          let one = one_refusal task text g f other by in
+          (inl (is ∙ ap serving_status_for same ∙ ap status_of one), leaves)
+      | inr (inr (d, accepts, serves)) ↦ absurd (not_accepted task text d f accepts by)
+    ]
+
+    began : (d : Description) → AcceptsTask task text d → ((r ≡ Err (serving.Common fault.NoMemory)) × LeavesPorts run.ports) ⊎ ServesTask run.ports task d r
+    began d accepts = elim so [
+      | inl none ↦ inl none
+      | inr (inl (f, refuses, same, leaves)) ↦ absurd (not_accepted task text d f accepts refuses)
+      | inr (inr (other, other_accepts, serves)) ↦
+          inr (subst (λ (x : Description). ServesTask run.ports task x r) (one_description text other d other_accepts.0 accepts.0) serves)
+    ]
+
+    may : (d : Description) → AcceptsTask task text d → MayServe r
+    may d accepts = elim (began d accepts) [
+      | inl none ↦ subst MayServe (sym none.0) tt
+      | inr serves ↦ may_serve run.ports task d r accepts.1 serves
+    ]
+
+    accepts : (d : Description) → AcceptsTask task text d
+        → (s ≢ status.USAGE) × (s ≢ status.DESCRIPTION) × (((s ≡ status.NO_MEMORY) × LeavesPorts run.ports) ⊎ BeganServing run err err' task d s)
+    accepts d by = (
+      λ same. subst MayServe (has status.USAGE same) (may d by),
+      λ same. subst MayServe (has status.DESCRIPTION same).1 (may d by),
+      elim (began d by) [
+        | inl none ↦ inl (none_so none.0, none.1)
+        | inr serves ↦ inr (record { result = r; serves = serves; is = is; tells = tells })
+      ],
+    )
+
+    complete : (d : Description) → AcceptsTask task text d → IsQuietServing run.ports task → (s ≡ status.OK) ⊎ (s ≡ status.NO_MEMORY)
+    complete d accepts quiet = elim (began d accepts) [
+      | inl none ↦ inr (none_so none.0)
+      | inr serves ↦ elim (quiet_fine run.ports task d r accepts.1 serves quiet) [
+        | inl well ↦ inl (is ∙ well)
+        | inr none ↦ inr (is ∙ none)
+      ]
+    ]
+
+  asked : (task : ServingTask) → IsServingTask words task → Asks run task
+  asked task is_serving = asked_by run task r (of_task task is_serving)
 
   pub ran_serving : RanServing run err err' words s
   ran_serving = record {
@@ -224,9 +291,13 @@ module _ {F D P L : Type 0} (run : ServingRun F D P L) (err err' : Writing) (wor
     malformed = λ same. let f = has status.MALFORMED same in (f.0, f.1, came (Ok (Some (unclean.Connection (ending.Malformed f.0 f.1)))) tt f.2);
     truncated = λ same. let n = has status.TRUNCATED same in (n.0, came (Ok (Some (unclean.Connection (ending.Truncated n.0)))) tt n.1);
     too_long = λ same. came (Ok (Some (unclean.Connection ending.TooLong))) tt (has status.TOO_LONG same);
-    door = λ same. came_by serving.Door unclean.Door tt (has door_status same);
+    door = λ same. came_by serving.Door unclean.Door tt (has status.DOOR same);
     no_memory = λ same. came_by (serving.Common fault.NoMemory) (unclean.Connection ending.NoMemory) tt (has status.NO_MEMORY same);
     listed = known_so.1;
+    decided = decided;
+    refuses = λ text task f holds is_serving. refuses text task holds is_serving f;
+    accepts = λ text task d holds is_serving. accepts text task holds is_serving d;
+    complete = λ text task d holds is_serving. complete text task holds is_serving d;
     asked = asked;
     came = record { result = r; comes_to = come; is = is; tells = tells };
   }

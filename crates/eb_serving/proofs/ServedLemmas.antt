@@ -16,7 +16,7 @@ use Rattle.eb_serving.specs.declared.fault.ServingFault.{ServingFault}
 use Rattle.eb_serving.specs.declared.fault.ServingFault.TheVariants as serving
 use Rattle.eb_serving.specs.ServingWords.{ServingAsk}
 use Rattle.eb_serving.specs.Doors.{MadeDoors, StopsAtDoor, ServesLast}
-use Rattle.eb_serving.specs.RanServing.{PortRun, ServesPorts, TellsServed}
+use Rattle.eb_serving.specs.ServingRuns.{PortRun, ServesPorts, TellsServed}
 
 -- There was no memory to take the last doors out of the net.
 pub unserved_last : {D P L : Type 0} (state : D → DoorState) (d : Description) (connections count : ℕ) (old new : Network D P L) (r : Result ServeState NoMemory) → count ≤ length old.doors → new ≡ old → IsErr r

@@ -12,7 +12,7 @@ use Rattle.eb_text.specs.declared.fault.Fault.{Fault}
 use Rattle.eb_text.specs.declared.fault.Fault.TheVariants as fault
 use Rattle.eb_serving.specs.declared.fault.ServingFault.{ServingFault}
 use Rattle.eb_serving.specs.declared.fault.ServingFault.TheVariants as serving
-use Rattle.eb_serving.specs.RanServing.{serving_status_for, unclean_status}
+use Rattle.eb_serving.specs.ServingRuns.{serving_status_for, unclean_status}
 
 -- what a status says, by its number
 pub data Sort : Type 0 where

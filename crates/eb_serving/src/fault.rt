@@ -4,9 +4,6 @@ ghost use Rattle.eb_serving.specs.declared.fault.ServingFault.TheVariants as ser
 
 use eb_text::{Fault, Status};
 
-/// The status of a door that failed.
-pub const DOOR: Status = Status(8);
-
 /// How a server's command ended otherwise than well. How its streams ended stands in its output.
 #[derive(Debug, Drop)]
 pub enum ServingFault {
@@ -25,7 +22,7 @@ impl ServingFault {
     {
         match self {
             ServingFault::Common(fault) => fault.status(),
-            ServingFault::Door => DOOR,
+            ServingFault::Door => Status::DOOR,
         }
     }
 }

@@ -5,7 +5,7 @@ ghost use Rattle.eb_ports.specs.Connections.{door_told};
 ghost use Rattle.eb_serve.specs.Text.{serve_text};
 ghost use Rattle.eb_serve.specs.Unclean.{first_unclean_port};
 ghost use Rattle.eb_serving.specs.ServingWords.{ServingTask, PortsTask, ask_seen};
-ghost use Rattle.eb_serving.specs.RanServing.{port_run, serving_run, served_answer, ServesPorts, ServingComesTo, TellsServed};
+ghost use Rattle.eb_serving.specs.ServingRuns.{port_run, serving_run, served_answer, ServesPorts, ServingComesTo, TellsServed};
 
 use crate::around::Around;
 use crate::command::Asked;

@@ -6,7 +6,7 @@ ghost use Rattle.eb_serve.specs.DatagramText.{datagrams_text};
 ghost use Rattle.eb_serve.specs.Unclean.{first_unclean_of};
 ghost use Rattle.eb_serving.specs.ServingWords.{PostTask, ask_seen};
 ghost use Rattle.eb_serving.specs.Posts.{MakesPost, ServesNetPost};
-ghost use Rattle.eb_serving.specs.RanServing.{port_run, serving_run, unclean_datagram, ServesPost, ServingComesTo, TellsServed};
+ghost use Rattle.eb_serving.specs.ServingRuns.{port_run, serving_run, unclean_datagram, ServesPost, ServingComesTo, TellsServed};
 
 use crate::around::Around;
 use crate::command::Asked;

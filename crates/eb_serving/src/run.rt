@@ -1,11 +1,12 @@
 //! The top call of the commands of a server.
 ghost use Rattle.std.specs.Prelude.{◌≡◌, map, string_bytes};
 ghost use Rattle.eb_ports.specs.Connections.{door_told};
-ghost use Rattle.eb_serving.specs.RanServing.{port_run, serving_run, serving_status_for, unclean_status, RanServing, ServingWordsComeTo, TellsServing};
+ghost use Rattle.eb_serving.specs.ServingRuns.{port_run, serving_run, serving_status_for, unclean_status, ServingWordsComeTo, TellsServing};
+ghost use Rattle.eb_serving.specs.RanServing.{RanServing};
 
 use crate::around::Around;
 use crate::command::{Serving, serving_of};
-use crate::fault::{DOOR, ServingFault};
+use crate::fault::ServingFault;
 use crate::lines::write_serving_line;
 use crate::ports::serve_ports;
 use crate::posts::answer_datagrams;
@@ -48,7 +49,7 @@ fn unclean_status(first: Option<Unclean>) -> Status
     match first {
         None => Status::OK,
         Some(Unclean::Connection(ending)) => ending_status(ending),
-        Some(Unclean::Door) => DOOR,
+        Some(Unclean::Door) => Status::DOOR,
     }
 }
 
@@ -79,6 +80,11 @@ fn tell<E: Sink>(ran: &Result<Option<Unclean>, ServingFault>, err: &mut E) -> St
 /// `write_fault`, `malformed`, `truncated`, `too_long`, `door`, `no_memory`), that there is no other (`listed`), which
 /// ports the net was asked for (`asked`), and what the words came to and standard error gets (`came`): there the text
 /// that went out tells one legal history of the described bus, and each port was served as one alone is (`Serves`).
+///
+/// Where the description's file tells its octets, these decide whether the task is refused or begun (`decided`), unless
+/// memory was wanting: octets that refuse it leave no other status, and nothing is served (`refuses`); octets that
+/// accept it don't end so (`accepts`), and nothing but memory is wanting where doors, peers and the output don't fail
+/// and the streams are whole (`complete`).
 pub fn run_serving<R: Threads + Wait + Sync, W: World, N: Net, O: Sink, E: Sink>(
     rt: &R,
     alloc: Global,

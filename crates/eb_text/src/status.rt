@@ -26,6 +26,18 @@ impl Status {
     /// The input ended inside an item.
     pub const TRUNCATED: Status = Status(7);
 
+    /// An address couldn't be dialled, or a door or a post couldn't be made; or an accept failed.
+    pub const DOOR: Status = Status(8);
+
+    /// A peer's reply is refused, or it ended before a whole one.
+    pub const PEER: Status = Status(9);
+
+    /// The bus answered an access with ERR or RTY.
+    pub const BUS_ERROR: Status = Status(10);
+
+    /// The SDB tables break a rule of the walk.
+    pub const WALK: Status = Status(11);
+
     /// The stream has more octets than are read.
     pub const TOO_LONG: Status = Status(12);
 

@@ -17,6 +17,13 @@ pub fn help() -> &'static [u8]
   eb replay DESC CAPTURE..    answer each file CAPTURE as one master of that bus,
                               all of them at once, and show the replies and the
                               journal
+  eb serve DESC PORT CONNECTIONS
+                              serve so many connections at PORT for master 0 of
+                              that bus, at the next port for master 1, and so on,
+                              and show how they ended and the journal
+  eb serve-udp DESC PORT DATAGRAMS
+                              answer so many datagrams at PORT as master 0 of that
+                              bus, and show how they ended and the journal
   eb build DESC               show the SDB tables of that bus
   eb tour DESC                show what discovery finds on that bus, read through a
                               host and a slave
@@ -35,8 +42,8 @@ Replies and texts go to standard output. The status is 0, or with a line on
 standard error: 2 usage, 3 description refused, 4 read fault, 5 write fault,
 6 malformed, 7 truncated, 8 door fault, 9 a reply of the peer refused, 10 bus
 error, 11 walk refused, 12 too long, 13 no memory, 14 script refused. The
-endings of a replay stand in its output, and the first that is not clean gives
-the status, without a line.
+endings of a replay or a server stand in its output, and the first that is not
+clean gives the status, without a line.
 "
 }
 

@@ -2,7 +2,7 @@ use Rattle.std.proofs.Common.{◌≤◌, ◌+◌, ℕ, subst, refl, arith}
 use Rattle.eb_ports.specs.Connections.{door_told}
 use Rattle.eb_serving.specs.ServingWords.{ask_seen}
 use Rattle.eb_serving.specs.Doors.{MadeDoors}
-use Rattle.eb_serving.specs.RanServing.{port_run}
+use Rattle.eb_serving.specs.ServingRuns.{port_run}
 use Rattle.eb_serving.proofs.ServedLemmas.{comes_served, comes_unserved}
 use Rattle.eb_serving.proofs.ports.serve_described.Goals as goal
 

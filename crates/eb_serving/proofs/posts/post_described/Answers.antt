@@ -1,7 +1,7 @@
 use Rattle.std.proofs.Common.{refl}
 use Rattle.eb_ports.specs.Connections.{door_told}
 use Rattle.eb_serving.specs.ServingWords.{ask_seen}
-use Rattle.eb_serving.specs.RanServing.{port_run}
+use Rattle.eb_serving.specs.ServingRuns.{port_run}
 use Rattle.eb_serving.proofs.PostLemmas.{comes_answered, comes_unanswered}
 use Rattle.eb_serving.proofs.posts.post_described.Goals as goal
 

@@ -1,6 +1,6 @@
 use Rattle.std.proofs.Common.{Option, ◌∙◌, ap}
 use Rattle.eb_serve.specs.declared.unclean.Unclean.{Unclean}
-use Rattle.eb_serving.specs.RanServing.{served_answer, unclean_datagram}
+use Rattle.eb_serving.specs.ServingRuns.{served_answer, unclean_datagram}
 use Rattle.eb_serving.proofs.posts.tell_datagrams.Goals as goal
 
 pub returns : goal.returns

@@ -1,6 +1,6 @@
 use Rattle.std.proofs.Common.{map, string_bytes}
 use Rattle.eb_ports.specs.Connections.{door_told}
-use Rattle.eb_serving.specs.RanServing.{port_run, serving_run}
+use Rattle.eb_serving.specs.ServingRuns.{port_run, serving_run}
 use Rattle.eb_serving.proofs.RanServingLemmas.{ran_serving}
 use Rattle.eb_serving.proofs.run.run_serving.Goals as goal
 

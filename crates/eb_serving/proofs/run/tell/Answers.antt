@@ -1,7 +1,7 @@
 use Rattle.std.proofs.Common.{Option, Result, sym, subst}
 use Rattle.eb_serve.specs.declared.unclean.Unclean.{Unclean}
 use Rattle.eb_serving.specs.declared.fault.ServingFault.{ServingFault}
-use Rattle.eb_serving.specs.RanServing.{TellsServing}
+use Rattle.eb_serving.specs.ServingRuns.{TellsServing}
 use Rattle.eb_serving.proofs.run.tell.Goals as goal
 
 pub returns-in-Err-clause-tells : goal.returns-in-Err-clause-tells
