@@ -1,7 +1,9 @@
 //! Ports that are served to peers in memory.
-use crate::peers::{Peer, door_of_none, door_of_one, door_of_two};
+use crate::peers::{
+    OPENS, Peer, READS, REPLIED, WRITES, door_of_none, door_of_one, door_of_two, two,
+};
 use eb_io::MemSink;
-use eb_net::{Door, MemDoor};
+use eb_net::Door;
 use eb_samples::SOC;
 use eb_serve::{ServedPorts, Unclean, serve};
 use eb_server::Ending;
@@ -11,34 +13,6 @@ use std::mem::forget;
 use std::sync::Wait;
 use std::test::Fail;
 use std::thread::Threads;
-
-// A header, and a record that writes 0xDEADBEEF at 0x10 and ends its cycle.
-const WRITES: [u8; 16] = [
-    0x4E, 0x6F, 0x10, 0x44, 0x08, 0x0F, 0x01, 0x00, 0x00, 0x00, 0x00, 0x10, 0xDE, 0xAD, 0xBE, 0xEF,
-];
-
-// A header, and a record that reads what stands at 0x10.
-const READS: [u8; 16] = [
-    0x4E, 0x6F, 0x10, 0x44, 0x88, 0x0F, 0x00, 0x01, 0x00, 0x00, 0x00, 0x00, 0x00, 0x00, 0x00, 0x10,
-];
-
-// The replies to them.
-const REPLIED: [u8; 16] = [
-    0x4E, 0x6F, 0x14, 0x44, 0x0C, 0x0F, 0x01, 0x00, 0x00, 0x00, 0x00, 0x00, 0xDE, 0xAD, 0xBE, 0xEF,
-];
-
-// A header, and a record that writes 1 at 0 and leaves its cycle open.
-const OPENS: [u8; 16] = [
-    0x4E, 0x6F, 0x10, 0x44, 0x00, 0x0F, 0x01, 0x00, 0x00, 0x00, 0x00, 0x00, 0x00, 0x00, 0x00, 0x01,
-];
-
-// Two doors, as many as SOC has masters.
-fn two(alloc: Global, first: MemDoor, second: MemDoor) -> Result<Vec<MemDoor>, Fail> {
-    let mut doors = Vec::new(alloc);
-    doors.push(first)?;
-    doors.push(second)?;
-    Ok(doors)
-}
 
 // The text of served ports, which are let go.
 fn text_of(alloc: Global, served: ServedPorts) -> Result<MemSink, Fail> {
@@ -51,14 +25,18 @@ fn text_of(alloc: Global, served: ServedPorts) -> Result<MemSink, Fail> {
     }
 }
 
-// What came of ports on the bus of SOC: the doors, the text, and what didn't end clean.
-fn served<R: Threads + Wait + Sync>(
+/// What came of ports on the bus of a description: the doors, the text, and what didn't end clean.
+pub fn served<R: Threads + Wait + Sync, D: Door + Send + Drop>(
     rt: &R,
     alloc: Global,
-    doors: Vec<MemDoor>,
+    description: &str,
+    doors: Vec<D>,
     connections: u32,
-) -> Result<(Vec<MemDoor>, MemSink, Option<Unclean>), Fail> {
-    let Ok(description) = read(alloc, SOC.as_bytes()) else {
+) -> Result<(Vec<D>, MemSink, Option<Unclean>), Fail>
+where
+    D::Link: Send,
+{
+    let Ok(description) = read(alloc, description.as_bytes()) else {
         return Err(Fail::from("description"));
     };
     if doors.is_empty() || doors.len() > usize::from(description.masters) {
@@ -86,7 +64,7 @@ fn two_connections_of_a_port(rt: HostRuntime) -> Result<(), Fail> {
     };
     let mut doors = Vec::new(alloc);
     doors.push(door_of_two(alloc, writes, reads)?)?;
-    let (mut doors, text, unclean) = served(&rt, alloc, doors, 2)?;
+    let (mut doors, text, unclean) = served(&rt, alloc, SOC, doors, 2)?;
     assert_eq!(rt;
         text.octets(),
         b"port 0 connection 0 clean\nport 0 connection 1 clean\njournal\n\
@@ -110,7 +88,7 @@ fn peer_lost_in_a_cycle(rt: HostRuntime) -> Result<(), Fail> {
         fails: &[1],
     };
     let doors = two(alloc, door_of_one(alloc, opens)?, door_of_none(alloc, &[])?)?;
-    let (_, text, unclean) = served(&rt, alloc, doors, 1)?;
+    let (_, text, unclean) = served(&rt, alloc, SOC, doors, 1)?;
     assert_eq!(rt;
         text.octets(),
         b"port 0 connection 0 read fault\njournal\n\
@@ -130,7 +108,7 @@ fn failed_accept(rt: HostRuntime) -> Result<(), Fail> {
         fails: &[],
     };
     let doors = two(alloc, door_of_one(alloc, asks)?, door_of_none(alloc, &[0])?)?;
-    let (_, text, unclean) = served(&rt, alloc, doors, 1)?;
+    let (_, text, unclean) = served(&rt, alloc, SOC, doors, 1)?;
     assert_eq!(rt;
         text.octets(),
         b"port 0 connection 0 clean\nport 1 door fault\njournal\n".as_slice()
