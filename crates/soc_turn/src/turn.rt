@@ -155,8 +155,8 @@ impl<T: Ledgered> Turn<T> {
     }
 
     /// Waits for the pass's turn, and takes the value. It yields to the other threads between two looks, except that
-    /// it looks again at once, for some microseconds, when it is the next. A master that had some turns since it
-    /// rested, and had to wait for the last, first rests for 0.4 to 1.6 ms.
+    /// it looks again at once, for some microseconds, when it is the next. Of masters that had to wait for eight turns
+    /// in a row some first rest for 2 ms.
     ///
     /// The value's history extends what the pass has seen by entries of others, and the pass's stake and the charter
     /// are as it has seen them. The pass has become the hold, by which the value is put back.
@@ -171,7 +171,7 @@ impl<T: Ledgered> Turn<T> {
             mut seat,
         } = pass;
         let shared = &self.table.shared;
-        pace.begin(rt, number);
+        pace.begin(rt);
         let ticket = shared.fetch_add::<Draw>(&mut seat, 0, 1);
         for _ in rt.forever() {
             let served = shared.load::<Look>(&mut seat, 1);
@@ -179,7 +179,7 @@ impl<T: Ledgered> Turn<T> {
                 let value = shared.exchange(&mut seat, 0, None).unwrap();
                 return (Held { number, pace, seat }, value);
             }
-            pace.wait(ticket.wrapping_sub(served));
+            pace.wait(ticket, ticket.wrapping_sub(served));
         }
         unreachable!()
     }
