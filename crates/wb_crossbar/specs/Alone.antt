@@ -1,10 +1,10 @@
 -- A bus at which one port alone waits or asks.
-use Rattle.std.specs.Prelude.{◌≡◌, ◌≢◌, ℕ, ◌^◌, Bool, true, false, List, [], slice_get, Option, Some, None}
+use Rattle.std.specs.Prelude.{◌≡◌, ◌≢◌, ℕ, ◌^◌, ◌&&◌, not, Bool, true, false, List, [], slice_get, Option, Some, None}
 use Rattle.wb_signals.specs.Slave.{Owed}
 use Rattle.wb_signals.specs.Rows.{asked}
+use Rattle.wb_signals.specs.Turn.{is_nobody}
 use Rattle.wb_signals.specs.declared.port_row.PortRow.{PortRow}
 use Rattle.wb_signals.specs.declared.debtor.Debtor.{Debtor}
-use Rattle.wb_signals.specs.declared.debtor.Debtor.TheVariants.{Nobody}
 use Rattle.wb_crossbar.specs.Crossbar.{CrossbarState, MayTick}
 
 -- Only this port waits, for this set.
@@ -17,10 +17,9 @@ abbrev pub lone_grant : Bool → ℕ → ℕ
 lone_grant true port = 2 ^ port
 lone_grant false port = 0
 
--- A port that is owed nothing, and requests nothing by its row.
-pub record IsQuiet (debtor : Debtor) (row : PortRow) : Type 0 where
-  pub owed : debtor ≡ Nobody
-  pub asks : asked row ≡ None
+-- Whether a port is owed nothing, and requests nothing by its row.
+abbrev pub is_quiet : Debtor → PortRow → Bool
+is_quiet debtor row = is_nobody debtor && not row.stb
 
 -- The row with no answer.
 abbrev pub unanswered : PortRow → PortRow
