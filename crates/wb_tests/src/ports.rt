@@ -112,6 +112,18 @@ fn grants_in_turn(rt: HostRuntime) -> Result<(), Fail> {
     Ok(())
 }
 
+// A lone port is granted as it would be beside others that don't wait, and the port after it is first then.
+#[test]
+fn grants_a_lone_port(rt: HostRuntime) -> Result<(), Fail> {
+    let (zero, both) = (Some(SlaveSet(0b01)), Some(SlaveSet(0b11)));
+    let mut arbiter = Arbiter::new(3);
+    let held = arbiter.step_lone(1, SlaveSet(0b11), SlaveSet(0b10));
+    let free = arbiter.step_lone(1, SlaveSet(0b11), SlaveSet(0));
+    let next = arbiter.step(&[zero, None, both], SlaveSet(0));
+    assert_eq!(rt; (held, free, next), (false, true, 4));
+    Ok(())
+}
+
 // A port with one request unanswered drives no other.
 #[test]
 fn one_at_a_time(rt: HostRuntime) -> Result<(), Fail> {
