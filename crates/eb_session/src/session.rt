@@ -1,17 +1,20 @@
 //! The session of one stream.
 ghost use Rattle.std.specs.Prelude.{◌≡◌, ◌<◌, ◌≤◌, ◌+◌, ◌^◌, List, IsSome, IfSome, IfOk, OnOk, OnErr, None, Some, [], length};
+ghost use Rattle.eb_base.specs.declared.width.Width.TheVariants.{W32};
 ghost use Rattle.eb_codec.specs.Decoding.{record_in};
+ghost use Rattle.eb_codec.specs.Short.{IsShortFlags, short_header, short_record};
 ghost use Rattle.wb_signals.specs.declared.answer.Answer.{Answer};
 ghost use Rattle.eb_session.specs.Keeping.{new_session, FeedsSession, MalformedExactly, Finishes, Advances, octets_taken};
 ghost use Rattle.eb_session.specs.Keeping.{WasGiven, ItemRan, ItemUnrun, RecordRan, Unrun, is_item};
 
-use crate::configuration::shifted;
+use crate::configuration::{shift, shifted};
 use crate::operations::{is_last, put_ops};
 use crate::replying::{put_header, put_probe, put_reply};
 use crate::running::{cut_open, run_ops};
+use crate::short::{put_short, short_read, short_write};
 use crate::slave::{Slave, widths};
 use eb_base::NoMemory;
-use eb_codec::{Decoder, Item, Why};
+use eb_codec::{Decoder, Item, ShortRecord, Why};
 use std::alloc::Global;
 use std::marker::Model;
 use wb_signals::{Master, Op};
@@ -169,6 +172,33 @@ impl Session {
         }
     }
 
+    // Runs the short record that the decoder just gave, and replies to it.
+    #[inline(always)]
+    fn run_short<M: Master>(
+        &mut self,
+        alloc: Global,
+        master: &mut M,
+        short: ShortRecord,
+    ) -> Result<(), NoMemory>
+        requires width { (M.identity master.old).bus ≡ self.old.slave.bus }
+        requires bus { self.old.slave.bus ≡ W32 }
+        requires header { self.old.progress.header ≡ Some short_header }
+        requires shown { self.old.progress.shown ≡ Some (short_record short) }
+        requires flags { IsShortFlags short.flags }
+        requires empty { self.old.reply ≡ [] }
+        ensures ran { OnOk result ((answers : List Answer) × RecordRan (M.identity master.old).number self.old self.new
+            (M.cycles master.old) (M.cycles master.new) (record_in self.old.progress.shown) answers) }
+        ensures unrun { OnErr result (Unrun self.old self.new (M.cycles master.old) (M.cycles master.new)) }
+        ensures identity { M.identity master.new ≡ M.identity master.old }
+    {
+        let ops = [short_write(short), short_read(short)];
+        run_ops(alloc, master, &ops, is_last(short.flags))?;
+        let (wrote, read) = (master.answer(0), master.answer(1));
+        self.errors = shift(shift(self.errors, wrote), read);
+        put_short(short, read, &mut self.reply);
+        Ok(())
+    }
+
     // Runs what the decoder just gave, and replies to it.
     fn run_item<M: Master>(
         &mut self,
@@ -205,7 +235,7 @@ impl Session {
     {
         let record = self.decoder.record();
         put_ops(self.slave.bus, &record, &mut self.ops);
-        run_ops(alloc, master, &self.ops, is_last(record.head()))?;
+        run_ops(alloc, master, &self.ops, is_last(record.head().flags))?;
         self.errors = shifted(master, self.ops.len(), self.errors);
         put_reply(self.slave, &record, master, self.errors, &mut self.reply);
         Ok(())
