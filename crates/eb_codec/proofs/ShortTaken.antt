@@ -13,10 +13,11 @@ use Rattle.eb_codec.specs.Stream.{HaveWidths, BreaksNone}
 use Rattle.eb_codec.specs.Reading.{size, item_in, record_of}
 use Rattle.eb_codec.specs.Filling.{IsFilled}
 use Rattle.eb_codec.specs.Inside.{pending_in, shown_in, state_of, Holds}
-use Rattle.eb_codec.specs.Decoding.{DecoderState, Takes}
+use Rattle.eb_codec.specs.Decoding.{DecoderState, Takes, Feeds}
 use Rattle.eb_codec.specs.Short.{BeginsShort, IsShortFlags, AwaitsShort, TakesShort, short_header, short_record, short_step}
 use Rattle.eb_codec.proofs.FieldLemmas.{IsBytes-take}
 use Rattle.eb_codec.proofs.ViewLemmas.{is_record, head_of}
+use Rattle.eb_codec.proofs.AgainLemmas.{stands}
 use Rattle.eb_codec.proofs.DecoderLemmas.{pends, whole, fed_from}
 use Rattle.eb_codec.proofs.ShortLemmas.{short_none, short_size, short_front}
 
@@ -64,8 +65,10 @@ takes_short v sets header shows start n fault piece room room' s view awaits hol
     subst (λ (h : Option Header). Takes (state_of sets h (take n room) shows start fault) piece (short_step s) (state_of sets h (take 20 room') true (start + 20) fault)) (sym e) t in
     let first : (record_of short_header (take 20 piece)).head.flags ≡ s.flags = ap (λ (r : Record). r.head.flags) is in
     let flags : IsShortFlags (record_of short_header (take 20 piece)).head.flags = rw (head_of short_header (take 20 piece)) (short_front piece b).flags in
+    let fed : Feeds v piece (Ok (short_step s)) new = fed_from (λ w. Takes w piece (short_step s) new) (λ w m. (answer_ok (short_step s) ≡ Err m) × (new ≡ w)) (state_of sets header (take n room) shows start fault) v view sound t' in
     record {
-      fed = fed_from (λ w. Takes w piece (short_step s) new) (λ w m. (answer_ok (short_step s) ≡ Err m) × (new ≡ w)) (state_of sets header (take n room) shows start fault) v view sound t';
+      fed = fed;
+      stands = stands v new piece (Ok (short_step s)) fed;
       header = e;
       shown = ap (λ (h : Option Header). shown_in true h (take 20 room')) e ∙ ap (λ (l : List ℕ). Some (record_of short_header l)) front ∙ ap (λ (r : Record). Some r) is;
       flags = subst IsShortFlags first flags;

@@ -7,7 +7,7 @@ use Rattle.eb_codec.specs.declared.item.Record.{Record}
 use Rattle.eb_codec.specs.declared.short.ShortRecord.{ShortRecord}
 use Rattle.eb_codec.specs.declared.event.Step.{Step}
 use Rattle.eb_codec.specs.declared.event.Item.TheVariants as item
-use Rattle.eb_codec.specs.Decoding.{DecoderState, Feeds}
+use Rattle.eb_codec.specs.Decoding.{DecoderState, Feeds, Stands}
 
 -- The header behind which a record may be short: addresses and port of 32 bits, and replies are wanted.
 abbrev pub short_header : Header
@@ -49,6 +49,7 @@ short_step s = record { taken = 20; item = item.Record (short_record s).head }
 -- The call did what `feed` does of a piece that begins with this record, which it shows.
 pub record TakesShort (old : DecoderState) (piece : List ℕ) (s : ShortRecord) (new : DecoderState) : Type 0 where
   pub fed : Feeds old piece (Ok (short_step s)) new
+  pub stands : Stands old new (length piece) (short_step s)
   pub header : new.header ≡ Some short_header
   pub shown : new.shown ≡ Some (short_record s)
   pub flags : IsShortFlags s.flags

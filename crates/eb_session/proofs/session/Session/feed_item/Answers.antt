@@ -5,7 +5,7 @@ use Rattle.eb_session.specs.declared.session.End.TheVariants as end
 use Rattle.eb_session.specs.Keeping.{SessionState, FeedsSession, is_item}
 use Rattle.eb_session.proofs.FeedLemmas.{takes, gives_sets, gives_fault, gives_narrow, from_view, item_ran, item_unrun, refuses, refused, malformed_exactly}
 use Rattle.eb_session.proofs.ShortLemmas.{fed_short}
-use Rattle.eb_session.proofs.session.Session.feed.Goals as goal
+use Rattle.eb_session.proofs.session.Session.feed_item.Goals as goal
 
 pub invariant_of-self-in-Ok : goal.invariant_of-self-in-Ok
 invariant_of-self-in-Ok g c =
