@@ -25,7 +25,7 @@ is_record sets h o none whole bytes =
     let k = kept_record sets (Some h) h (record_of h o) o refl s in
     record { fits = k.0; fills = s.form.1; rules = k.1 }
 
-head_of : (h : Header) (o : List ℕ) → (record_of h o).head ≡ record_head_of o
+pub head_of : (h : Header) (o : List ℕ) → (record_of h o).head ≡ record_head_of o
 unfolding record_of
 head_of h o = refl
 

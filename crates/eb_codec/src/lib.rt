@@ -12,6 +12,7 @@
 //! - `encoding`: the encoders
 //! - `event`: what a call of the decoder answers
 //! - `decoder`: the decoder
+//! - `short`: a short record
 //! - `view`: a whole record as one value
 //! - `laws`: what holds of all runs of the decoder, of the encoders and of the grammar
 //! - `rules`: the rule that an octet breaks
@@ -28,6 +29,7 @@ pub mod laws;
 mod reading;
 mod room;
 mod rules;
+pub mod short;
 pub mod sizes;
 pub mod view;
 pub mod words;
@@ -35,5 +37,6 @@ pub mod words;
 pub use decoder::Decoder;
 pub use event::{Item, Malformed, Step};
 pub use item::{Header, Probe, Record, RecordHead, Why};
+pub use short::ShortRecord;
 pub use view::RecordView;
 pub use words::Words;

@@ -6,4 +6,5 @@ pub mod ReplyLemmas
 pub mod WidthLemmas
 pub mod FeedLemmas
 pub mod ShortLemmas
+pub mod ShortRan
 pub mod EndLemmas

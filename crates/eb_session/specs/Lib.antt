@@ -5,3 +5,4 @@ pub mod Replies
 pub mod Keeping
 pub mod Course
 pub mod Inside
+pub mod Short

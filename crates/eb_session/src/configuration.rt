@@ -46,8 +46,9 @@ fn octets_at(port: Width, root: u64, errors: u64, at: u64) -> u64
     }
 }
 
-// The register after one more answer.
-fn shift(errors: u64, answer: Answer) -> u64
+/// The register after one more answer.
+#[inline(always)]
+pub fn shift(errors: u64, answer: Answer) -> u64
     ensures value { result ≡ (2 * errors + failed_bit answer) % 2 ^ 64 }
 {
     errors.wrapping_mul(2).wrapping_add(failed(answer))

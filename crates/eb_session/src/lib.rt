@@ -5,6 +5,7 @@
 //! - `slave`: a slave, and the widths that it has
 //! - `session`: the session of one stream
 //! - `operations`: the operations of a record
+//! - `short`: a short record, its operations and its reply
 //! - `running`: what a session asks of its master
 //! - `replying`: the replies to items
 //! - `configuration`: the configuration space, and the error register
@@ -17,6 +18,7 @@ mod operations;
 mod replying;
 mod running;
 pub mod session;
+mod short;
 mod slave;
 
 pub use session::{End, Fed, Session};

@@ -11,7 +11,7 @@ ghost use Rattle.eb_session.specs.Operations.{write_at, read_at, record_ops, upt
 
 use eb_base::{Lanes, Width, place};
 use eb_codec::flags::{CYC, RCA, WCA, WFF};
-use eb_codec::{Header, RecordHead, RecordView};
+use eb_codec::{Header, RecordView};
 use wb_signals::Op;
 
 // A number below that many octets.
@@ -59,10 +59,10 @@ fn lanes_of(port: Width, bus: Width, adr: u64, dat: u64, sel: u8) -> Lanes
     }
 }
 
-// An access of a port as an operation on the bus.
+/// An access of a port as an operation on the bus.
 #[inline(always)]
 #[tactic(auto, unfolding(wb_signals::specs::Request::placed))]
-fn access(port: Width, bus: Width, write: bool, adr: u64, dat: u64, sel: u8) -> Op
+pub fn access(port: Width, bus: Width, write: bool, adr: u64, dat: u64, sel: u8) -> Op
     requires narrow { octets port ≤ octets bus }
     requires some_lane { sel ≢ 0 }
     requires lanes { sel < 2 ^ octets port }
@@ -170,11 +170,11 @@ fn put_reads(bus: Width, view: &RecordView<'_>, count: usize, ops: &mut Vec<Op>)
     }
 }
 
-/// Whether a cycle ends after a record with this head.
-pub fn is_last(head: RecordHead) -> bool
-    ensures value { result ≡ has head.flags CYC }
+/// Whether a cycle ends after a record with these flags.
+pub fn is_last(flags: u8) -> bool
+    ensures value { result ≡ has flags CYC }
 {
-    head.flags & CYC != 0
+    flags & CYC != 0
 }
 
 // Puts the operations of a record in place of those that there are.

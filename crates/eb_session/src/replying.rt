@@ -19,9 +19,9 @@ use eb_codec::sizes::{trailing, unit_len};
 use eb_codec::{Header, Probe, RecordView};
 use wb_signals::{Answer, Master};
 
-// The flags of the reply to a record with these.
+/// The flags of the reply to a record with these.
 #[inline(always)]
-fn flags_of(flags: u8) -> u8
+pub fn flags_of(flags: u8) -> u8
     ensures value { result ≡ reply_flags flags }
 {
     let base = if flags & BCA != 0 { WCA } else { 0 };
@@ -52,9 +52,9 @@ fn word_of_bus(port: Width, bus: Width, adr: u64, dat: u64, sel: u8) -> u64
     }
 }
 
-// The word of an answer.
+/// The word of an answer.
 #[inline(always)]
-fn answered(port: Width, bus: Width, adr: u64, sel: u8, answer: Answer) -> u64
+pub fn answered(port: Width, bus: Width, adr: u64, sel: u8, answer: Answer) -> u64
     requires narrow { octets port ≤ octets bus }
     requires some_lane { sel ≢ 0 }
     requires lanes { sel < 2 ^ octets port }

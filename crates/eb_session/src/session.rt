@@ -1,17 +1,21 @@
 //! The session of one stream.
-ghost use Rattle.std.specs.Prelude.{◌≡◌, ◌<◌, ◌≤◌, ◌+◌, ◌^◌, List, IsSome, IfSome, IfOk, OnOk, OnErr, None, Some, [], length};
+ghost use Rattle.std.specs.Prelude.{◌≡◌, ◌<◌, ◌≤◌, ◌+◌, ◌^◌, List, IsSome, IfSome, IfNone, IfOk, OnOk, OnErr, None, Some, [], length};
+ghost use Rattle.eb_base.specs.declared.width.Width.TheVariants.{W32};
 ghost use Rattle.eb_codec.specs.Decoding.{record_in};
+ghost use Rattle.eb_codec.specs.Short.{IsShortFlags, short_header, short_record};
 ghost use Rattle.wb_signals.specs.declared.answer.Answer.{Answer};
 ghost use Rattle.eb_session.specs.Keeping.{new_session, FeedsSession, MalformedExactly, Finishes, Advances, octets_taken};
 ghost use Rattle.eb_session.specs.Keeping.{WasGiven, ItemRan, ItemUnrun, RecordRan, Unrun, is_item};
 
-use crate::configuration::shifted;
+use crate::configuration::{shift, shifted};
 use crate::operations::{is_last, put_ops};
 use crate::replying::{put_header, put_probe, put_reply};
 use crate::running::{cut_open, run_ops};
+use crate::short::{put_short, short_read, short_write};
 use crate::slave::{Slave, widths};
-use eb_base::NoMemory;
-use eb_codec::{Decoder, Item, Why};
+use eb_base::{NoMemory, Width};
+use eb_codec::short::SHORT;
+use eb_codec::{Decoder, Item, ShortRecord, Why};
 use std::alloc::Global;
 use std::marker::Model;
 use wb_signals::{Master, Op};
@@ -144,6 +148,82 @@ impl Session {
         ensures slave { self.new.slave ≡ self.old.slave }
         ensures identity { M.identity master.new ≡ M.identity master.old }
     {
+        match self.feed_short(alloc, master, piece) {
+            Some(answer) => answer,
+            None => self.feed_item(alloc, master, piece),
+        }
+    }
+
+    // Takes a short record, where the piece begins with a whole one, nothing pends, and the bus has 32 bits: runs it,
+    // and replies to it. Else it does nothing.
+    #[inline(always)]
+    fn feed_short<M: Master>(
+        &mut self,
+        alloc: Global,
+        master: &mut M,
+        piece: &[u8],
+    ) -> Option<Result<Fed, End>>
+        requires width { (M.identity master.old).bus ≡ self.old.slave.bus }
+        requires fewer { octets_taken self.old + length piece.now < 2 ^ 64 }
+        ensures fed { IfSome result (λ answer. FeedsSession (M.identity master.old).number self.old piece.now self.new
+            (M.cycles master.old) (M.cycles master.new) answer) }
+        ensures malformed { IfSome result (λ answer. MalformedExactly self.old piece.now answer) }
+        ensures placed { IfSome result (λ answer.
+            IfOk answer (λ fed. Advances self.old self.new (length piece.now) fed)) }
+        ensures bound { octets_taken self.new ≤ octets_taken self.old + length piece.now }
+        ensures short { IfSome result (λ answer.
+            IfOk answer (λ fed. length self.new.reply + length self.new.progress.pending
+            ≤ length self.old.progress.pending + fed.taken)) }
+        ensures running { IfSome result (λ answer. OnOk answer (self.new.ending ≡ None)) }
+        ensures closed { IfSome result (λ answer. OnErr answer ((M.cycles master.new).opened ≡ [])) }
+        ensures left { IfNone result (self.new ≡ self.old) }
+        ensures same { IfNone result (M.cycles master.new ≡ M.cycles master.old) }
+        ensures slave { self.new.slave ≡ self.old.slave }
+        ensures identity { M.identity master.new ≡ M.identity master.old }
+    {
+        if let Some(_) = self.ending {
+            return None;
+        }
+        if self.slave.bus != Width::W32 {
+            return None;
+        }
+        let short = self.decoder.take_short(piece)?;
+        self.reply.clear();
+        match self.run_short(alloc, master, short) {
+            Ok(()) => Some(Ok(Fed {
+                taken: SHORT,
+                item: true,
+            })),
+            Err(_) => {
+                self.ending = Some(End::NoMemory);
+                cut_open(master);
+                Some(Err(End::NoMemory))
+            }
+        }
+    }
+
+    // Takes octets up to the end of any item, and runs it.
+    fn feed_item<M: Master>(
+        &mut self,
+        alloc: Global,
+        master: &mut M,
+        piece: &[u8],
+    ) -> Result<Fed, End>
+        requires width { (M.identity master.old).bus ≡ self.old.slave.bus }
+        requires closed { IfSome self.old.ending (λ _. (M.cycles master.old).opened ≡ []) }
+        requires fewer { octets_taken self.old + length piece.now < 2 ^ 64 }
+        ensures fed { FeedsSession (M.identity master.old).number self.old piece.now self.new
+            (M.cycles master.old) (M.cycles master.new) result }
+        ensures malformed { MalformedExactly self.old piece.now result }
+        ensures placed { IfOk result (λ fed. Advances self.old self.new (length piece.now) fed) }
+        ensures bound { octets_taken self.new ≤ octets_taken self.old + length piece.now }
+        ensures short { IfOk result (λ fed. length self.new.reply + length self.new.progress.pending
+            ≤ length self.old.progress.pending + fed.taken) }
+        ensures running { OnOk result (self.new.ending ≡ None) }
+        ensures closed { OnErr result ((M.cycles master.new).opened ≡ []) }
+        ensures slave { self.new.slave ≡ self.old.slave }
+        ensures identity { M.identity master.new ≡ M.identity master.old }
+    {
         self.reply.clear();
         if let Some(ending) = self.ending {
             return Err(ending);
@@ -167,6 +247,33 @@ impl Session {
                 }
             },
         }
+    }
+
+    // Runs the short record that the decoder just gave, and replies to it.
+    #[inline(always)]
+    fn run_short<M: Master>(
+        &mut self,
+        alloc: Global,
+        master: &mut M,
+        short: ShortRecord,
+    ) -> Result<(), NoMemory>
+        requires width { (M.identity master.old).bus ≡ self.old.slave.bus }
+        requires bus { self.old.slave.bus ≡ W32 }
+        requires header { self.old.progress.header ≡ Some short_header }
+        requires shown { self.old.progress.shown ≡ Some (short_record short) }
+        requires flags { IsShortFlags short.flags }
+        requires empty { self.old.reply ≡ [] }
+        ensures ran { OnOk result ((answers : List Answer) × RecordRan (M.identity master.old).number self.old self.new
+            (M.cycles master.old) (M.cycles master.new) (record_in self.old.progress.shown) answers) }
+        ensures unrun { OnErr result (Unrun self.old self.new (M.cycles master.old) (M.cycles master.new)) }
+        ensures identity { M.identity master.new ≡ M.identity master.old }
+    {
+        let ops = [short_write(short), short_read(short)];
+        run_ops(alloc, master, &ops, is_last(short.flags))?;
+        let (wrote, read) = (master.answer(0), master.answer(1));
+        self.errors = shift(shift(self.errors, wrote), read);
+        put_short(short, read, &mut self.reply);
+        Ok(())
     }
 
     // Runs what the decoder just gave, and replies to it.
@@ -205,7 +312,7 @@ impl Session {
     {
         let record = self.decoder.record();
         put_ops(self.slave.bus, &record, &mut self.ops);
-        run_ops(alloc, master, &self.ops, is_last(record.head()))?;
+        run_ops(alloc, master, &self.ops, is_last(record.head().flags))?;
         self.errors = shifted(master, self.ops.len(), self.errors);
         put_reply(self.slave, &record, master, self.errors, &mut self.reply);
         Ok(())
