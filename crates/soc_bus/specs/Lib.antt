@@ -3,3 +3,4 @@ pub mod Clocked
 pub mod Tree
 pub mod Local
 pub mod Ledger
+pub mod Look

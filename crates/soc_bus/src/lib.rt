@@ -13,6 +13,7 @@
 //! - `bus`: the bus and its calls
 //! - `clock`: one clock of all ports, after the grants
 //! - `cycle`: the cycle of a port, its phase and its pairs
+//! - `grant`: who is granted
 //! - `kept`: entries and pairs in memory
 //! - `ledgered`: a bus as a value that threads take in turns
 //! - `local`: one port as a master
@@ -27,6 +28,7 @@
 mod bus;
 mod clock;
 mod cycle;
+mod grant;
 mod kept;
 mod ledgered;
 mod local;

@@ -1,5 +1,5 @@
 -- The condition of the crossbar's tick, and of what the ports get.
-use Rattle.std.proofs.Common.{◌≡◌, ◌∙◌, ap, sym, subst, length, map, slice_get, Some}
+use Rattle.std.proofs.Common.{◌≡◌, ◌∙◌, ap, subst, length, map, slice_get, Some}
 use Rattle.std.proofs.lemmas.List.{length-map}
 use Rattle.wb_signals.specs.Parts.{contents_in}
 use Rattle.wb_signals.specs.Turn.{owed_by}

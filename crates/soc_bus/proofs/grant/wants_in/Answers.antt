@@ -1,7 +1,7 @@
 use Rattle.std.proofs.Common.{◌∙◌, arith}
 use Rattle.std.proofs.lemmas.List.{length-set}
 use Rattle.soc_bus.proofs.CycleLists.{wants_more}
-use Rattle.soc_bus.proofs.bus.wants_in.Goals as goal
+use Rattle.soc_bus.proofs.grant.wants_in.Goals as goal
 
 pub loop-i-preserved : goal.loop-i-preserved
 loop-i-preserved g c = record {
