@@ -1,6 +1,7 @@
 //! Who is granted, and the phases that the ports step to.
 ghost use Rattle.std.specs.Prelude.{◌≡◌, ◌≢◌, ◌≤◌, ◌<◌, ℕ, Some, false, length, take, bit_and};
 ghost use Rattle.wb_crossbar.specs.Grant.{IsGrant, IsNext};
+ghost use Rattle.wb_crossbar.specs.Alone.{lone_grant};
 ghost use Rattle.soc_core.specs.Core.{granted_from, held};
 ghost use Rattle.soc_bus.specs.View.{phase_of, states, rooms, sets_given, sets_wanted, wanting};
 ghost use Rattle.soc_bus.specs.Look.{seen, nothing_seen, looked_from};
@@ -11,13 +12,14 @@ use crate::recorder::PairRecorder;
 use wb_crossbar::Arbiter;
 use wb_signals::SlaveSet;
 
-/// What one look at the ports tells: all slaves that are held, how many ports wait, the last of them, and whether a port
-/// has released its set.
+/// What one look at the ports tells: all slaves that are held, how many ports wait, the last of them and its set, and
+/// whether a port has released its set.
 #[derive(Clone, Copy)]
 struct Look {
     held: u128,
     waiting: usize,
     last: usize,
+    set: u128,
     leaves: bool,
 }
 
@@ -51,6 +53,7 @@ fn look_at<P: PairRecorder>(cycles: &[Cycle<P>]) -> Look
         held: 0,
         waiting: 0,
         last: 0,
+        set: 0,
         leaves: false,
     };
     for i in 0..cycles.len() {
@@ -66,9 +69,10 @@ fn see(phase: Phase, i: usize, look: Look) -> Look
 {
     match phase {
         Phase::Idle => look,
-        Phase::Wants(_) => Look {
+        Phase::Wants(set) => Look {
             waiting: look.waiting + 1,
             last: i,
+            set: set.0,
             ..look
         },
         Phase::Holds(set) => Look {
@@ -116,8 +120,68 @@ fn leave_all<P: PairRecorder>(cycles: &mut [Cycle<P>], look: Look)
     }
 }
 
-/// Asks the arbiter, and steps the ports by its grant.
+/// Asks the arbiter, and steps the ports by its grant. Where one port waits alone, the arbiter looks at no other.
 fn grant_free<P: PairRecorder>(arbiter: &mut Arbiter, cycles: &mut [Cycle<P>], look: Look) -> u32
+    requires ports { length cycles.old ≡ arbiter.old.ports }
+    requires few { length cycles.old ≤ 16 }
+    requires look { look ≡ looked_from 0 (states cycles.old) nothing_seen }
+    ensures grant { IsGrant arbiter.old (wanting (states cycles.old)) (held (states cycles.old)) result }
+    ensures next { IsNext arbiter.old result arbiter.new.first }
+    ensures ports { arbiter.new.ports ≡ arbiter.old.ports }
+    ensures states { states cycles.new ≡ granted_from result 0 (states cycles.old) }
+    ensures rooms { rooms cycles.new ≡ rooms cycles.old }
+{
+    if look.waiting == 1 {
+        grant_lone(arbiter, cycles, look)
+    } else {
+        grant_many(arbiter, cycles, look)
+    }
+}
+
+/// Asks the arbiter of the one port that waits.
+fn grant_lone<P: PairRecorder>(arbiter: &mut Arbiter, cycles: &mut [Cycle<P>], look: Look) -> u32
+    requires ports { length cycles.old ≡ arbiter.old.ports }
+    requires few { length cycles.old ≤ 16 }
+    requires look { look ≡ looked_from 0 (states cycles.old) nothing_seen }
+    requires lone { look.waiting ≡ 1 }
+    requires within { look.last < length cycles.old }
+    ensures grant { IsGrant arbiter.old (wanting (states cycles.old)) (held (states cycles.old)) result }
+    ensures next { IsNext arbiter.old result arbiter.new.first }
+    ensures ports { arbiter.new.ports ≡ arbiter.old.ports }
+    ensures states { states cycles.new ≡ granted_from result 0 (states cycles.old) }
+    ensures rooms { rooms cycles.new ≡ rooms cycles.old }
+{
+    let granted = arbiter.step_lone(look.last as u8, SlaveSet(look.set), SlaveSet(look.held));
+    step_lone(cycles, look, granted);
+    lone_grant(granted, look.last)
+}
+
+/// Steps the ports where one waits, and is granted or isn't. Where none leaves, no other phase changes.
+fn step_lone<P: PairRecorder>(cycles: &mut [Cycle<P>], look: Look, granted: bool)
+    requires few { length cycles.old ≤ 16 }
+    requires within { look.last < length cycles.old }
+    requires look { look ≡ looked_from 0 (states cycles.old) nothing_seen }
+    requires lone { look.waiting ≡ 1 }
+    ensures states { states cycles.new ≡ granted_from (lone_grant granted look.last) 0 (states cycles.old) }
+    ensures rooms { rooms cycles.new ≡ rooms cycles.old }
+{
+    if look.leaves {
+        step_all(cycles, lone_grant(granted, look.last));
+    } else {
+        cycles[look.last].step(granted);
+    }
+}
+
+/// The grant of this port alone, or of none.
+fn lone_grant(granted: bool, port: usize) -> u32
+    requires few { port < 16 }
+    ensures grant { result ≡ lone_grant granted port }
+{
+    if granted { 1 << port } else { 0 }
+}
+
+/// Asks the arbiter of all ports.
+fn grant_many<P: PairRecorder>(arbiter: &mut Arbiter, cycles: &mut [Cycle<P>], look: Look) -> u32
     requires ports { length cycles.old ≡ arbiter.old.ports }
     requires few { length cycles.old ≤ 16 }
     requires look { look ≡ looked_from 0 (states cycles.old) nothing_seen }
