@@ -1,8 +1,8 @@
 -- The grant where one port alone waits.
-use Rattle.std.proofs.Common.{◌≡◌, ◌≢◌, ◌⊎◌, inl, inr, ℕ, ◌+◌, ◌-◌, ◌<◌, ◌≤◌, ◌^◌, nat_le, Bool, true, false, Option, Some, None, refl, ap, sym, ◌∙◌, subst, arith, bit_and}
+use Rattle.std.proofs.Common.{◌≡◌, ◌≢◌, inl, inr, ℕ, ◌+◌, ◌-◌, ◌<◌, ◌≤◌, ◌^◌, nat_le, Bool, true, false, Option, Some, None, refl, ap, sym, ◌∙◌, subst, arith, bit_and}
 use Rattle.std.specs.Int.{bit_at}
 use Rattle.std.proofs.lemmas.Nat.Bits.{bit_at-zero, bit_at-pow_same, bit_at-pow_other}
-use Rattle.wb_crossbar.specs.Grant.{Turn, port_at, IsGranted, IsDecided, IsGrant, port_after, IsNext}
+use Rattle.wb_crossbar.specs.Grant.{Turn, port_at, IsGranted, IsGrant, port_after, IsNext}
 use Rattle.wb_crossbar.specs.Alone.{IsLone}
 use Rattle.wb_crossbar.proofs.Seen.{number_cases, port_cases, other_ports, after_within}
 
