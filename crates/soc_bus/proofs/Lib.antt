@@ -6,6 +6,7 @@ pub mod ShownLemmas
 pub mod Nobody
 pub mod Holders
 pub mod Serving
+pub mod LoneLemmas
 pub mod Quiet
 pub mod BusLemmas
 pub mod TreeLemmas

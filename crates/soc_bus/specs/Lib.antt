@@ -4,3 +4,4 @@ pub mod Tree
 pub mod Local
 pub mod Ledger
 pub mod Look
+pub mod Alone

@@ -10,6 +10,7 @@
 //!
 //! `Local` is one port of a bus whose other ports are idle, as a master of sessions.
 //!
+//! - `alone`: one clock in which one port alone is active
 //! - `bus`: the bus and its calls
 //! - `clock`: one clock of all ports, after the grants
 //! - `cycle`: the cycle of a port, its phase and its pairs
@@ -25,6 +26,7 @@
 //! - `waiting`: ticks until a port has its answers
 #![tactic(auto)]
 
+mod alone;
 mod bus;
 mod clock;
 mod cycle;

@@ -9,7 +9,7 @@ use Rattle.soc_bus.specs.View.{CycleView, states}
 use Rattle.soc_bus.specs.Clocked.{driven_rows}
 use Rattle.soc_wave.specs.Shown.{holders_from}
 use Rattle.soc_bus.proofs.ServedLemmas.{can_tick, can_pass, can_answer}
-use Rattle.soc_bus.proofs.clock.clock.Goals as goal
+use Rattle.soc_bus.proofs.clock.clock_all.Goals as goal
 
 pub tick-requires-clause-can : goal.tick-requires-clause-can
 tick-requires-clause-can g c =
