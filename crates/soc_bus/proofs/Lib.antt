@@ -7,7 +7,6 @@ pub mod Nobody
 pub mod Holders
 pub mod Serving
 pub mod LoneLemmas
-pub mod Quiet
 pub mod BusLemmas
 pub mod TreeLemmas
 pub mod BuildLemmas

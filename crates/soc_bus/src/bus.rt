@@ -13,7 +13,7 @@ ghost use Rattle.soc_bus.specs.Local.{AllIdle};
 ghost use Rattle.soc_bus.specs.Ledger.{AddsOwn, KeepsLedger};
 ghost use Rattle.soc_bus.specs.View.{IsBus, states};
 
-use crate::clock::{clock, hold_all};
+use crate::clock::{clock, hold_all, unseen_clock};
 use crate::cycle::Cycle;
 use crate::grant::grant_all;
 use crate::recorder::{BusRecorder, PairRecorder};
@@ -243,44 +243,8 @@ impl<R: BusRecorder> Bus<R> {
         ensures tick { IsTick (fabric_of self.old.description) self.old.core self.new.core }
         ensures description { self.new.description ≡ self.old.description }
     {
-        if self.is_quiet() {
-            self.grant();
-        } else {
-            self.tick_ports();
-        }
-    }
-
-    /// Whether no port has a request or is owed an answer.
-    fn is_quiet(&self) -> bool
-        ensures quiet { result ≡ true → (m : ℕ) → pending (port self.now.core m) ≡ 0 }
-    {
-        all_done(&self.ports)
-    }
-
-    /// One tick in which nothing is requested or answered: the slaves stay as they are.
-    fn grant(&mut self)
-        requires quiet { (m : ℕ) → pending (port self.old.core m) ≡ 0 }
-        ensures keeps { KeepsLedger self.old self.new }
-        ensures tick { IsTick (fabric_of self.old.description) self.old.core self.new.core }
-        ensures description { self.new.description ≡ self.old.description }
-    {
         let _grant = grant_all(&mut self.arbiter, &mut self.cycles);
-    }
-
-    /// One tick of a bus of any ports. Few ports, the common case, take no room for 16.
-    fn tick_ports(&mut self)
-        ensures keeps { KeepsLedger self.old self.new }
-        ensures tick { IsTick (fabric_of self.old.description) self.old.core self.new.core }
-        ensures description { self.new.description ≡ self.old.description }
-    {
-        let ports = self.ports.len();
-        if ports <= 2 {
-            let mut rows = [PortRow::none(); 2];
-            self.tick_over(&mut rows[..ports]);
-        } else {
-            let mut rows = [PortRow::none(); 16];
-            self.tick_over(&mut rows[..ports]);
-        }
+        unseen_clock(&mut self.crossbar, &self.cycles, &mut self.ports);
     }
 
     /// One tick, which shows the signals of the ports in its clock, and who holds each top slave.
@@ -336,13 +300,6 @@ fn idle_ports(alloc: Global, count: u8, depth: u8) -> Result<Vec<Port>, NoMemory
         ports.push(Port::new(alloc, depth)?)?;
     }
     Ok(ports)
-}
-
-/// Whether each port has all answers to what it has loaded.
-fn all_done(ports: &[Port]) -> bool
-    ensures done { result ≡ list_all (λ p. length p.answers == length p.loaded) ports.now }
-{
-    ports.iter().all(|port| port.done())
 }
 
 /// Makes an entry of a cycle that has a pair, for which there is a place.
