@@ -1,7 +1,7 @@
 -- A clock in which one port alone has a request or is owed an answer, or none has.
 use Rattle.std.proofs.Common.{◌≡◌, ◌≢◌, ◌⊎◌, inl, inr, ◌<◌, ◌≤◌, ◌+◌, ◌==◌, ℕ, zero, suc, Bool, true, false, List, [], ◌∷◌, ◌++◌, length, get_or, set, take, map, slice_get, Option, Some, None, refl, ap, sym, ◌∙◌, subst, arith}
 use Rattle.std.proofs.lemmas.List.{length-map, map-append, take_more, take_more_set, get_or_default, length-set, get_or-set_same}
-use Rattle.std.proofs.lemmas.Option.{slice_get-get_or, slice_get_within, get_or_from_slice_get}
+use Rattle.std.proofs.lemmas.Option.{slice_get-get_or, slice_get_within}
 use Rattle.std.proofs.Math.Nat.{eq-or-lt_of_le}
 use Rattle.std.specs.Option.{is_some}
 use Rattle.eb_base.specs.declared.width.Width.{Width}
@@ -20,7 +20,7 @@ use Rattle.soc_core.specs.Core.{CorePort as Cycle}
 use Rattle.soc_core.specs.Sound.{is_busy_phase}
 use Rattle.soc_bus.specs.View.{CycleView, states}
 use Rattle.soc_bus.specs.Clocked.{driving, driven_rows, is_sent, answer_got, sampled_all, waiting, place_of, IsServed, AreServed, AreOperations}
-use Rattle.soc_bus.specs.Alone.{AreAllDone, AreOthersDone, resting_rows, one_active, with_active, IsActive}
+use Rattle.soc_bus.specs.Alone.{AreAllDone, AreOthersDone, resting_rows, with_active, IsActive}
 use Rattle.soc_bus.specs.declared.alone.Active.{Active}
 use Rattle.soc_bus.specs.declared.alone.Active.TheVariants.{Nobody, One, Many}
 use Rattle.soc_bus.proofs.ServedLemmas.{asked-driving, driven_at, count-waiting, row_of, can_tick, can_pass, can_answer}
@@ -283,27 +283,27 @@ active_more Nobody ps i p true is done below = λ n q l e. by_case n q e (eq-or-
     by_case n q e (inl s) = here ps i p n q is done s e
     by_case n q e (inr b) = below n q b e
 active_more (One m) ps i p true is done below = (
-    (let l = below.0 in omega (arith, l)),
-    λ n q l other e. by_case n q other e (eq-or-lt_of_le (let le : n ≤ i = omega (arith, l) in le)),
-  )
+  (let l = below.0 in omega (arith, l)),
+  λ n q l other e. by_case n q other e (eq-or-lt_of_le (let le : n ≤ i = omega (arith, l) in le)),
+)
   where
     by_case : (n : ℕ) (q : PortState) → n ≢ m → slice_get ps n ≡ Some q → (n ≡ i) ⊎ (n < i) → length q.answers ≡ length q.loaded
     by_case n q other e (inl s) = here ps i p n q is done s e
     by_case n q other e (inr b) = below.1 n q b other e
 active_more Many ps i p true is done below = tt
 active_more Nobody ps i p false is done below = (
-    (omega arith),
-    λ n q l other e. below n q (before n i l other) e,
-  )
+  (omega arith),
+  λ n q l other e. below n q (before n i l other) e,
+)
 active_more (One m) ps i p false is done below = tt
 active_more Many ps i p false is done below = tt
 
 pub active_all : (active : Active) (ps : List PortState) (i : ℕ) → length ps ≡ i → ActiveBelow active ps i → IsActive active ps
 active_all Nobody ps i end below = λ n p e. below n p (let b = slice_get_within ps n p e in omega (arith, b, end)) e
 active_all (One m) ps i end below = (
-    (let l = below.0 in omega (arith, l, end)),
-    λ n p other e. below.1 n p (let b = slice_get_within ps n p e in omega (arith, b, end)) other e,
-  )
+  (let l = below.0 in omega (arith, l, end)),
+  λ n p other e. below.1 n p (let b = slice_get_within ps n p e in omega (arith, b, end)) other e,
+)
 active_all Many ps i end below = tt
 
 -- ---- the rows of ports that drive nothing, one by one

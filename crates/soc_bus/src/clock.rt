@@ -50,7 +50,11 @@ pub fn clock<P: PairRecorder>(
 }
 
 /// One clock of which nobody sees the rows. Where no port is active, all stays as it is.
-pub fn unseen_clock<P: PairRecorder>(crossbar: &mut Crossbar<Node>, cycles: &[Cycle<P>], ports: &mut Vec<Port>)
+pub fn unseen_clock<P: PairRecorder>(
+    crossbar: &mut Crossbar<Node>,
+    cycles: &[Cycle<P>],
+    ports: &mut Vec<Port>,
+)
     requires sound { IsCrossbar node_slave IsSound crossbar.old }
     requires served { AreServed (crossbar_of node_slave crossbar.old)
         (holders_from (states cycles.now) 0 (length (crossbar_of node_slave crossbar.old).children)) ports.old.items }
@@ -73,7 +77,11 @@ pub fn unseen_clock<P: PairRecorder>(crossbar: &mut Crossbar<Node>, cycles: &[Cy
 }
 
 /// One clock of all ports of which nobody sees the rows. Few ports, the common case, take no room for 16.
-fn unseen_rows<P: PairRecorder>(crossbar: &mut Crossbar<Node>, cycles: &[Cycle<P>], ports: &mut Vec<Port>)
+fn unseen_rows<P: PairRecorder>(
+    crossbar: &mut Crossbar<Node>,
+    cycles: &[Cycle<P>],
+    ports: &mut Vec<Port>,
+)
     requires sound { IsCrossbar node_slave IsSound crossbar.old }
     requires served { AreServed (crossbar_of node_slave crossbar.old)
         (holders_from (states cycles.now) 0 (length (crossbar_of node_slave crossbar.old).children)) ports.old.items }

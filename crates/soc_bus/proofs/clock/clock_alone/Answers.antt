@@ -4,7 +4,7 @@ use Rattle.std.proofs.lemmas.List.{length-map}
 use Rattle.wb_tree.specs.Tree.{node_slave}
 use Rattle.wb_crossbar.specs.Inside.{crossbar_of}
 use Rattle.soc_bus.specs.View.{CycleView, states}
-use Rattle.soc_bus.specs.Clocked.{driven_rows, sampled_all}
+use Rattle.soc_bus.specs.Clocked.{sampled_all}
 use Rattle.soc_wave.specs.Shown.{holders_from}
 use Rattle.soc_bus.proofs.LoneLemmas.{rest_but, others_rest}
 use Rattle.soc_bus.proofs.clock.clock_alone.Goals as goal

@@ -1,11 +1,10 @@
 -- A clock in which nothing is requested or answered.
-use Rattle.std.proofs.Common.{◌≡◌, length, ◌∙◌, ap, sym, subst}
+use Rattle.std.proofs.Common.{◌≡◌, length, ◌∙◌, subst}
 use Rattle.std.proofs.lemmas.List.{length-map}
 use Rattle.wb_tree.specs.Tree.{node_slave}
 use Rattle.wb_crossbar.specs.Inside.{crossbar_of}
 use Rattle.soc_bus.specs.View.{CycleView, states}
-use Rattle.soc_bus.specs.Alone.{AreAllDone, IsActive}
-use Rattle.soc_bus.specs.declared.alone.Active.{Active}
+use Rattle.soc_bus.specs.Alone.{AreAllDone}
 use Rattle.soc_wave.specs.Shown.{holders_from}
 use Rattle.soc_bus.proofs.LoneLemmas.{quiet_crossbar, quiet_engines}
 use Rattle.soc_bus.proofs.clock.unseen_clock.Goals as goal

@@ -1,8 +1,8 @@
 -- The arbiter looks at the one port that waits.
-use Rattle.std.proofs.Common.{◌≡◌, ℕ, ap, sym, ◌∙◌, subst}
+use Rattle.std.proofs.Common.{sym, subst}
 use Rattle.soc_core.specs.Core.{held}
 use Rattle.soc_bus.specs.View.{states, wanting}
-use Rattle.wb_crossbar.specs.Grant.{IsGrant, IsNext}
+use Rattle.wb_crossbar.specs.Grant.{IsGrant}
 use Rattle.wb_crossbar.specs.Alone.{lone_grant}
 use Rattle.soc_bus.proofs.Nobody.{held_seen, is_lone}
 use Rattle.soc_bus.proofs.grant.grant_lone.Goals as goal

@@ -1,7 +1,6 @@
 -- A tick is the event of the core.
 use Rattle.std.proofs.Common.{◌≡◌, ◌++◌, List, length, take, drop, refl, ap, sym, ◌∙◌, subst}
 use Rattle.std.proofs.lemmas.List.{take_at}
-use Rattle.wb_signals.specs.Wave.{WaveRowState}
 use Rattle.wb_tree.specs.Tree.{node_slave}
 use Rattle.wb_crossbar.specs.Grant.{IsGrant}
 use Rattle.wb_crossbar.specs.Crossbar.{CrossbarState, wiring_of, rows_after, after_tick}
