@@ -33,7 +33,6 @@ use Rattle.soc_bus.proofs.ServedLemmas.{length-sampled, length-rows, length-owed
 use Rattle.soc_bus.proofs.Joined.{joined-set, joined-get, joined-granted, joined-held, joined-wants, joined-clocked, joined-passed, Matches}
 use Rattle.soc_bus.proofs.Serving.{served, matching}
 use Rattle.soc_bus.proofs.ShownLemmas.{rows_shown, holders_shown}
-use Rattle.soc_bus.proofs.Quiet.{all_answered, quiet_core, granted_pending}
 use Rattle.soc_machine.specs.Described.{described_wiring}
 
 abbrev pub no_cycle : CycleView
@@ -390,35 +389,6 @@ module _ (d : Description) (x : CrossbarState) (cs : List CycleView) (ps : List 
     tick_matches =
         matching d.depth (states cs2) ps x.owed made.deep (long_ports ∙ sym long_mid) (long_owed ∙ sym long_mid)
         (λ m. subst (λ qs. let p = get_or qs m resting_port in length p.got + length p.owed ≡ p.sent) mid_ports ((mid_sound.queues m).counted))
-
-    -- a tick in which nothing is requested or answered
-    module _ (quiet : (m : ℕ) → pending (port core m) ≡ 0) where
-      quiet_mid : (bus_state d x cs2 ps arb2 j).core ≡ mid
-      quiet_mid = λ i. record { ports = sym mid_ports i; contents = x.contents; first = arb2.first; journal = j.entries }
-
-      pub quiet_tick : IsTick f core (bus_state d x cs2 ps arb2 j).core
-      quiet_tick =
-          let answered = all_answered mid.ports (λ m. answered_is f (port mid m) (mid_sound.queues m) (granted_pending grant 0 core.ports quiet m)) in
-          record { grant = grant; first = arb2.first; is_grant = grant_is; is_next = next_is; core = quiet_mid ∙ sym (quiet_core f mid answered) }
-
-      pub quiet_bus : rooms cs2 ≡ rooms cs → IsBus (bus_state d x cs2 ps arb2 j)
-      quiet_bus same_rooms =
-          let new = (bus_state d x cs2 ps arb2 j).core in
-          kept (bus_state d x cs2 ps arb2 j) new refl refl (tick_sound f ok.fabric core new ok.sound quiet_tick)
-          (subst (λ ns. HasSpare new (record { entries = j.spare; pairs = ns })) (sym same_rooms)
-          (tick_room f ok.fabric core new (bus_state d x cs ps arb j).room ok.sound quiet_tick ok.room))
-
-      pub quiet_made : IsMadeOf d x cs2 ps arb2
-      quiet_made = record {
-        width = made.width;
-        slaves = made.slaves;
-        wiring = made.wiring;
-        cycles = sym (length-map cs2 (λ (p : CycleView). p.state)) ∙ long_mid ∙ long_states;
-        ports = made.ports;
-        owed = made.owed;
-        deep = made.deep;
-        turn = turn_kept ∙ made.turn;
-      }
 
     module _ (ps3 : List engine.PortState) (x3 : CrossbarState) (rows : List PortRow)
         (rows_are : rows ≡ rows_after (wiring_of x) x.owed (driven_rows (states cs2) ps)) (sampled_are : ps3 ≡ sampled_all ps rows)

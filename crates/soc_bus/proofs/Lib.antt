@@ -6,7 +6,7 @@ pub mod ShownLemmas
 pub mod Nobody
 pub mod Holders
 pub mod Serving
-pub mod Quiet
+pub mod LoneLemmas
 pub mod BusLemmas
 pub mod TreeLemmas
 pub mod BuildLemmas

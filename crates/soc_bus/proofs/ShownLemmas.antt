@@ -1,9 +1,8 @@
 -- What a clock shows: the crossbar's rows are those of the core's ports.
-use Rattle.std.proofs.Common.{◌≡◌, ℕ, zero, suc, ◌+◌, ◌==◌, Bool, true, false, cond, is_some, List, [], ◌∷◌, length, map, Option, Some, None, refl, ap, sym, ◌∙◌, arith}
+use Rattle.std.proofs.Common.{◌≡◌, ℕ, zero, suc, ◌==◌, Bool, cond, is_some, List, [], ◌∷◌, length, map, Option, Some, None, refl, ap, sym, ◌∙◌, arith}
 use Rattle.std.specs.Int.{bit_at}
 use Rattle.wb_signals.specs.Request.{Request}
-use Rattle.wb_signals.specs.Wiring.{Wiring}
-use Rattle.wb_signals.specs.Slave.{Owed, given, is_stalled}
+use Rattle.wb_signals.specs.Slave.{Owed, given}
 use Rattle.wb_signals.specs.Rows.{row_after, with_answer}
 use Rattle.wb_signals.specs.declared.answer.Answer.{Answer}
 use Rattle.wb_signals.specs.declared.answer.Answer.TheVariants.{Ack, Err, Rty}

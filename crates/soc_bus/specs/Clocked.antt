@@ -1,5 +1,5 @@
 -- One clock of the ports of a bus: what they drive, and what they make of the slaves' answers.
-use Rattle.std.specs.Prelude.{◌≡◌, ◌≤◌, ℕ, zero, suc, ◌==◌, Bool, true, false, if◌then◌else◌, ◌&&◌, not, List, [], ◌∷◌, length, map, take, drop, slice_get, Option, Some, None, All}
+use Rattle.std.specs.Prelude.{◌≡◌, ◌≤◌, ℕ, Bool, true, false, if◌then◌else◌, ◌&&◌, not, List, [], ◌∷◌, length, map, take, drop, slice_get, Option, Some, None, All}
 use Rattle.wb_signals.specs.Request.{Request, IsRequest}
 use Rattle.wb_signals.specs.Cycles.{FitsBus}
 use Rattle.wb_signals.specs.Slave.{Owed, queue_to}

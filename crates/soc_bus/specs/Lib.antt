@@ -3,3 +3,5 @@ pub mod Clocked
 pub mod Tree
 pub mod Local
 pub mod Ledger
+pub mod Look
+pub mod Alone

@@ -1,5 +1,5 @@
 -- What contracts see of a bus and of its ports.
-use Rattle.std.specs.Prelude.{◌≡◌, ◌≤◌, ℕ, Bool, true, false, List, [], ◌∷◌, length, map, slice_index_or, Option, Some, All}
+use Rattle.std.specs.Prelude.{◌≡◌, ◌≤◌, ℕ, List, [], ◌∷◌, length, map, slice_index_or, Option, Some, All}
 use Rattle.eb_base.specs.declared.width.Width.TheVariants.{W32}
 use Rattle.soc_desc.specs.declared.description.Description.{Description}
 use Rattle.soc_journal.specs.Journal.{JournalState}
@@ -23,13 +23,6 @@ phase_of Idle = core.Idle
 phase_of (Wants set) = core.Wants set.0
 phase_of (Holds set) = core.Holds set.0
 phase_of Leaves = core.Leaves
-
--- whether a tick leaves the phase as it is
-abbrev pub is_resting : core.Phase → Bool
-is_resting core.Idle = true
-is_resting (core.Wants set) = false
-is_resting (core.Holds set) = true
-is_resting core.Leaves = false
 
 -- A port's cycle, as a port with nothing loaded, and the pairs for which it has room.
 pub record CycleView : Type 0 where

@@ -11,10 +11,11 @@ ghost use Rattle.soc_core.specs.Sound.{is_busy_phase};
 ghost use Rattle.soc_wave.specs.Shown.{ShowsTick, holders_from};
 ghost use Rattle.soc_bus.specs.Local.{AllIdle};
 ghost use Rattle.soc_bus.specs.Ledger.{AddsOwn, KeepsLedger};
-ghost use Rattle.soc_bus.specs.View.{IsBus, is_resting, states, rooms, sets_given, sets_wanted, wanting};
+ghost use Rattle.soc_bus.specs.View.{IsBus, states};
 
-use crate::clock::{clock, hold_all};
+use crate::clock::{clock, hold_all, unseen_clock};
 use crate::cycle::Cycle;
+use crate::grant::grant_all;
 use crate::recorder::{BusRecorder, PairRecorder};
 use crate::sets::{all_of, asked};
 use crate::tree::top_slots;
@@ -242,44 +243,8 @@ impl<R: BusRecorder> Bus<R> {
         ensures tick { IsTick (fabric_of self.old.description) self.old.core self.new.core }
         ensures description { self.new.description ≡ self.old.description }
     {
-        if self.is_quiet() {
-            self.grant();
-        } else {
-            self.tick_ports();
-        }
-    }
-
-    /// Whether no port has a request or is owed an answer.
-    fn is_quiet(&self) -> bool
-        ensures quiet { result ≡ true → (m : ℕ) → pending (port self.now.core m) ≡ 0 }
-    {
-        all_done(&self.ports)
-    }
-
-    /// One tick in which nothing is requested or answered: the slaves stay as they are.
-    fn grant(&mut self)
-        requires quiet { (m : ℕ) → pending (port self.old.core m) ≡ 0 }
-        ensures keeps { KeepsLedger self.old self.new }
-        ensures tick { IsTick (fabric_of self.old.description) self.old.core self.new.core }
-        ensures description { self.new.description ≡ self.old.description }
-    {
         let _grant = grant_all(&mut self.arbiter, &mut self.cycles);
-    }
-
-    /// One tick of a bus of any ports. Few ports, the common case, take no room for 16.
-    fn tick_ports(&mut self)
-        ensures keeps { KeepsLedger self.old self.new }
-        ensures tick { IsTick (fabric_of self.old.description) self.old.core self.new.core }
-        ensures description { self.new.description ≡ self.old.description }
-    {
-        let ports = self.ports.len();
-        if ports <= 2 {
-            let mut rows = [PortRow::none(); 2];
-            self.tick_over(&mut rows[..ports]);
-        } else {
-            let mut rows = [PortRow::none(); 16];
-            self.tick_over(&mut rows[..ports]);
-        }
+        unseen_clock(&mut self.crossbar, &self.cycles, &mut self.ports);
     }
 
     /// One tick, which shows the signals of the ports in its clock, and who holds each top slave.
@@ -335,91 +300,6 @@ fn idle_ports(alloc: Global, count: u8, depth: u8) -> Result<Vec<Port>, NoMemory
         ports.push(Port::new(alloc, depth)?)?;
     }
     Ok(ports)
-}
-
-/// Whether each port has all answers to what it has loaded.
-fn all_done(ports: &[Port]) -> bool
-    ensures done { result ≡ list_all (λ p. length p.answers == length p.loaded) ports.now }
-{
-    ports.iter().all(|port| port.done())
-}
-
-/// Steps 1 and 2 of a tick: the ports that were released are idle, and the arbiter grants.
-fn grant_all<P: PairRecorder>(arbiter: &mut Arbiter, cycles: &mut [Cycle<P>]) -> u32
-    requires ports { length cycles.old ≡ arbiter.old.ports }
-    requires few { length cycles.old ≤ 16 }
-    requires within { arbiter.old.first < arbiter.old.ports }
-    ensures grant { IsGrant arbiter.old (wanting (states cycles.old)) (held (states cycles.old)) result }
-    ensures next { IsNext arbiter.old result arbiter.new.first }
-    ensures ports { arbiter.new.ports ≡ arbiter.old.ports }
-    ensures states { states cycles.new ≡ granted_from result 0 (states cycles.old) }
-    ensures rooms { rooms cycles.new ≡ rooms cycles.old }
-{
-    if all_rest(cycles) {
-        return 0;
-    }
-    if !any_waits(cycles) {
-        step_all(cycles, 0);
-        return 0; // the arbiter looks at nobody, and stays as it is
-    }
-    let wants = wants_in(cycles);
-    let held = SlaveSet(held_in(cycles));
-    let grant = arbiter.step(&wants[..cycles.len()], held);
-    step_all(cycles, grant);
-    grant
-}
-
-/// Whether a tick leaves the phases of all ports as they are.
-fn all_rest<P: PairRecorder>(cycles: &[Cycle<P>]) -> bool
-    ensures rest { result ≡ list_all (λ c. is_resting c.state.phase) cycles.now }
-{
-    cycles.iter().all(|cycle| cycle.rests())
-}
-
-/// Whether a port waits for slaves.
-fn any_waits<P: PairRecorder>(cycles: &[Cycle<P>]) -> bool
-    ensures none { result ≡ false → (m : ℕ) → wanting (states cycles.now) m ≡ None }
-{
-    for cycle in cycles {
-        if cycle.wants().is_some() {
-            return true;
-        }
-    }
-    false
-}
-
-/// The sets that the ports wait for.
-fn wants_in<P: PairRecorder>(cycles: &[Cycle<P>]) -> [Option<SlaveSet>; 16]
-    requires few { length cycles.now ≤ 16 }
-    ensures wants { sets_given (take (length cycles.now) result) ≡ sets_wanted (states cycles.now) }
-{
-    let mut wants = [None; 16];
-    for i in 0..cycles.len() {
-        wants[i] = cycles[i].wants();
-    }
-    wants
-}
-
-/// All slaves that are held.
-fn held_in<P: PairRecorder>(cycles: &[Cycle<P>]) -> u128
-    ensures held { result ≡ held (states cycles.now) }
-{
-    let mut held = 0;
-    for cycle in cycles {
-        held |= cycle.held();
-    }
-    held
-}
-
-/// Steps each port to its next phase, by the grant.
-fn step_all<P: PairRecorder>(cycles: &mut [Cycle<P>], grant: u32)
-    requires few { length cycles.old ≤ 16 }
-    ensures states { states cycles.new ≡ granted_from grant 0 (states cycles.old) }
-    ensures rooms { rooms cycles.new ≡ rooms cycles.old }
-{
-    for i in 0..cycles.len() {
-        cycles[i].step((grant >> i) & 1 == 1);
-    }
 }
 
 /// Makes an entry of a cycle that has a pair, for which there is a place.

@@ -12,8 +12,10 @@ ghost use Rattle.wb_crossbar.specs.Inside.{crossbar_of, IsCrossbar};
 ghost use Rattle.soc_core.specs.Core.{held_by};
 ghost use Rattle.soc_bus.specs.View.{states};
 ghost use Rattle.soc_bus.specs.Clocked.{driving, driven_rows, is_sent, answer_got, sampled_all, AreServed, AreOperations};
+ghost use Rattle.soc_bus.specs.Alone.{AreOthersDone};
 ghost use Rattle.soc_wave.specs.Shown.{holder_from, holders_from};
 
+use crate::alone::{Active, active_in, clock_one, rest_all};
 use crate::cycle::Cycle;
 use crate::recorder::PairRecorder;
 use wb_crossbar::Crossbar;
@@ -21,8 +23,116 @@ use wb_port::Port;
 use wb_signals::{Answer, PortRow};
 use wb_tree::Node;
 
-/// One clock, after the grants: what the ports drive, what the slaves make of it, and what the ports get.
+/// One clock, after the grants: what the ports drive, what the slaves make of it, and what the ports get. Where one port
+/// alone is active, the others are passed over.
 pub fn clock<P: PairRecorder>(
+    crossbar: &mut Crossbar<Node>,
+    cycles: &[Cycle<P>],
+    ports: &mut Vec<Port>,
+    rows: &mut [PortRow],
+)
+    requires sound { IsCrossbar node_slave IsSound crossbar.old }
+    requires served { AreServed (crossbar_of node_slave crossbar.old)
+        (holders_from (states cycles.now) 0 (length (crossbar_of node_slave crossbar.old).children)) ports.old.items }
+    requires cycles { length cycles.now ≡ length ports.old.items }
+    requires rows { length rows.old ≡ length ports.old.items }
+    ensures rows { rows.new ≡ rows_after (wiring_of (crossbar_of node_slave crossbar.old))
+        (crossbar_of node_slave crossbar.old).owed (driven_rows (states cycles.now) ports.old.items) }
+    ensures crossbar { crossbar_of node_slave crossbar.new
+        ≡ after_tick (crossbar_of node_slave crossbar.old) (driven_rows (states cycles.now) ports.old.items) }
+    ensures sound { IsCrossbar node_slave IsSound crossbar.new }
+    ensures ports { ports.new.items ≡ sampled_all ports.old.items rows.new }
+{
+    match active_in(ports) {
+        Active::One(m) => clock_alone(crossbar, cycles, ports, m, rows),
+        _ => clock_all(crossbar, cycles, ports, rows),
+    }
+}
+
+/// One clock of which nobody sees the rows. Where no port is active, all stays as it is.
+pub fn unseen_clock<P: PairRecorder>(
+    crossbar: &mut Crossbar<Node>,
+    cycles: &[Cycle<P>],
+    ports: &mut Vec<Port>,
+)
+    requires sound { IsCrossbar node_slave IsSound crossbar.old }
+    requires served { AreServed (crossbar_of node_slave crossbar.old)
+        (holders_from (states cycles.now) 0 (length (crossbar_of node_slave crossbar.old).children)) ports.old.items }
+    requires cycles { length cycles.now ≡ length ports.old.items }
+    requires few { length ports.old.items ≤ 16 }
+    ensures crossbar { crossbar_of node_slave crossbar.new
+        ≡ after_tick (crossbar_of node_slave crossbar.old) (driven_rows (states cycles.now) ports.old.items) }
+    ensures sound { IsCrossbar node_slave IsSound crossbar.new }
+    ensures ports { ports.new.items ≡ sampled_all ports.old.items
+        (rows_after (wiring_of (crossbar_of node_slave crossbar.old))
+        (crossbar_of node_slave crossbar.old).owed (driven_rows (states cycles.now) ports.old.items)) }
+{
+    match active_in(ports) {
+        Active::Nobody => {}
+        Active::One(m) => {
+            let _row = clock_one(crossbar, cycles, ports, m);
+        }
+        Active::Many => unseen_rows(crossbar, cycles, ports),
+    }
+}
+
+/// One clock of all ports of which nobody sees the rows. Few ports, the common case, take no room for 16.
+fn unseen_rows<P: PairRecorder>(
+    crossbar: &mut Crossbar<Node>,
+    cycles: &[Cycle<P>],
+    ports: &mut Vec<Port>,
+)
+    requires sound { IsCrossbar node_slave IsSound crossbar.old }
+    requires served { AreServed (crossbar_of node_slave crossbar.old)
+        (holders_from (states cycles.now) 0 (length (crossbar_of node_slave crossbar.old).children)) ports.old.items }
+    requires cycles { length cycles.now ≡ length ports.old.items }
+    requires few { length ports.old.items ≤ 16 }
+    ensures crossbar { crossbar_of node_slave crossbar.new
+        ≡ after_tick (crossbar_of node_slave crossbar.old) (driven_rows (states cycles.now) ports.old.items) }
+    ensures sound { IsCrossbar node_slave IsSound crossbar.new }
+    ensures ports { ports.new.items ≡ sampled_all ports.old.items
+        (rows_after (wiring_of (crossbar_of node_slave crossbar.old))
+        (crossbar_of node_slave crossbar.old).owed (driven_rows (states cycles.now) ports.old.items)) }
+{
+    let count = ports.len();
+    if count <= 2 {
+        let mut rows = [PortRow::none(); 2];
+        clock_all(crossbar, cycles, ports, &mut rows[..count]);
+    } else {
+        let mut rows = [PortRow::none(); 16];
+        clock_all(crossbar, cycles, ports, &mut rows[..count]);
+    }
+}
+
+/// One clock in which the port m alone is active.
+fn clock_alone<P: PairRecorder>(
+    crossbar: &mut Crossbar<Node>,
+    cycles: &[Cycle<P>],
+    ports: &mut Vec<Port>,
+    m: usize,
+    rows: &mut [PortRow],
+)
+    requires sound { IsCrossbar node_slave IsSound crossbar.old }
+    requires served { AreServed (crossbar_of node_slave crossbar.old)
+        (holders_from (states cycles.now) 0 (length (crossbar_of node_slave crossbar.old).children)) ports.old.items }
+    requires cycles { length cycles.now ≡ length ports.old.items }
+    requires rows { length rows.old ≡ length ports.old.items }
+    requires within { m < length ports.old.items }
+    requires others { AreOthersDone m ports.old.items }
+    ensures rows { rows.new ≡ rows_after (wiring_of (crossbar_of node_slave crossbar.old))
+        (crossbar_of node_slave crossbar.old).owed (driven_rows (states cycles.now) ports.old.items) }
+    ensures crossbar { crossbar_of node_slave crossbar.new
+        ≡ after_tick (crossbar_of node_slave crossbar.old) (driven_rows (states cycles.now) ports.old.items) }
+    ensures sound { IsCrossbar node_slave IsSound crossbar.new }
+    ensures ports { ports.new.items ≡ sampled_all ports.old.items rows.new }
+{
+    let row = clock_one(crossbar, cycles, ports, m);
+    rest_all(cycles, rows);
+    rows[m] = row;
+}
+
+/// One clock of all ports.
+fn clock_all<P: PairRecorder>(
     crossbar: &mut Crossbar<Node>,
     cycles: &[Cycle<P>],
     ports: &mut Vec<Port>,
@@ -79,7 +189,7 @@ fn has(set: u128, slave: usize) -> bool
 }
 
 /// The row of a port, in a cycle or not, that drives its next operation, or none.
-fn driving(cyc: bool, port: &Port) -> PortRow
+pub fn driving(cyc: bool, port: &Port) -> PortRow
     ensures row { result ≡ driving cyc (driven port.now) }
     ensures operation { (r : Request) → asked result ≡ Some r → IsRequest r }
 {
@@ -117,7 +227,7 @@ fn drive_all<P: PairRecorder>(cycles: &[Cycle<P>], ports: &[Port], rows: &mut [P
     }
 }
 
-fn answer_got(row: &PortRow) -> Option<Answer>
+pub fn answer_got(row: &PortRow) -> Option<Answer>
     ensures answer { result ≡ answer_got row.now }
 {
     if row.ack {
@@ -131,7 +241,7 @@ fn answer_got(row: &PortRow) -> Option<Answer>
     }
 }
 
-fn is_sent(row: &PortRow) -> bool
+pub fn is_sent(row: &PortRow) -> bool
     ensures passed { result ≡ is_sent row.now }
 {
     row.stb && !row.stall

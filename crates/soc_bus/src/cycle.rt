@@ -1,10 +1,10 @@
 //! The cycle of a port.
-ghost use Rattle.std.specs.Prelude.{◌≡◌, ◌≢◌, ◌↔◌, IsTrue, ◌≤◌, ◌+◌, ◌-◌, ◌++◌, [], length, OnOk, OnErr, Some, vec_len, vec_capacity};
+ghost use Rattle.std.specs.Prelude.{◌≡◌, ◌≢◌, ◌↔◌, IsTrue, ◌≤◌, ◌+◌, ◌-◌, ◌++◌, [], ℕ, false, bit_and, length, OnOk, OnErr, Some, vec_len, vec_capacity};
 ghost use Rattle.wb_signals.specs.Cycles.{paired};
 ghost use Rattle.soc_core.specs.Core.{Wants, Leaves, resting_port, unloaded, is_idle, is_granted, with_phase, phase_after, wants_of, held_by};
 ghost use Rattle.soc_core.specs.Sound.{is_busy_phase};
 ghost use Rattle.wb_crossbar.specs.Looks.{set_in};
-ghost use Rattle.soc_bus.specs.View.{phase_of, is_resting};
+ghost use Rattle.soc_bus.specs.View.{phase_of};
 
 use crate::phase::Phase;
 use crate::recorder::PairRecorder;
@@ -69,11 +69,21 @@ impl<P: PairRecorder> Cycle<P> {
         matches!(self.phase, Phase::Wants(_) | Phase::Holds(_))
     }
 
-    /// Whether a tick leaves its phase as it is: it neither waits nor has released its set.
-    pub fn rests(&self) -> bool
-        ensures rests { result ≡ is_resting self.now.state.phase }
+    /// Its phase.
+    pub fn phase(&self) -> Phase
+        ensures phase { phase_of result ≡ self.now.state.phase }
     {
-        matches!(self.phase, Phase::Idle | Phase::Holds(_))
+        self.phase
+    }
+
+    /// Whether it waits for a set that meets none of these slaves.
+    pub fn is_free(&self, held: u128) -> bool
+        ensures free { result ≡ false → (set : ℕ) → wants_of self.now.state.phase ≡ Some set → bit_and held set ≢ 0 }
+    {
+        match self.phase {
+            Phase::Wants(set) => held & set.0 == 0,
+            _ => false,
+        }
     }
 
     /// The set that it waits for.
@@ -116,7 +126,15 @@ impl<P: PairRecorder> Cycle<P> {
         ensures state { self.new.state ≡ with_phase (phase_after granted self.old.state.phase) self.old.state }
         ensures room { self.new.room ≡ self.old.room }
     {
-        self.phase = next_phase(self.phase, granted);
+        match self.phase {
+            Phase::Wants(set) => {
+                if granted {
+                    self.phase = Phase::Holds(set);
+                }
+            }
+            Phase::Leaves => self.phase = Phase::Idle,
+            Phase::Idle | Phase::Holds(_) => {}
+        }
     }
 
     /// Makes room for so many more pairs.
@@ -145,24 +163,6 @@ impl<P: PairRecorder> Cycle<P> {
     {
         self.phase = Phase::Leaves;
         self.opened.take()
-    }
-}
-
-/// The phase after a tick.
-fn next_phase(phase: Phase, granted: bool) -> Phase
-    ensures phase { phase_of result ≡ phase_after granted (phase_of phase) }
-{
-    match phase {
-        Phase::Idle => Phase::Idle,
-        Phase::Wants(set) => {
-            if granted {
-                Phase::Holds(set)
-            } else {
-                Phase::Wants(set)
-            }
-        }
-        Phase::Holds(set) => Phase::Holds(set),
-        Phase::Leaves => Phase::Idle,
     }
 }
 

@@ -10,9 +10,11 @@
 //!
 //! `Local` is one port of a bus whose other ports are idle, as a master of sessions.
 //!
+//! - `alone`: one clock in which one port alone is active
 //! - `bus`: the bus and its calls
 //! - `clock`: one clock of all ports, after the grants
 //! - `cycle`: the cycle of a port, its phase and its pairs
+//! - `grant`: who is granted
 //! - `kept`: entries and pairs in memory
 //! - `ledgered`: a bus as a value that threads take in turns
 //! - `local`: one port as a master
@@ -24,9 +26,11 @@
 //! - `waiting`: ticks until a port has its answers
 #![tactic(auto)]
 
+mod alone;
 mod bus;
 mod clock;
 mod cycle;
+mod grant;
 mod kept;
 mod ledgered;
 mod local;

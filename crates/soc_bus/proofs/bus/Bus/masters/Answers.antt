@@ -1,5 +1,5 @@
 -- The number of ports.
-use Rattle.std.proofs.Common.{ap, arith, ◌∙◌}
+use Rattle.std.proofs.Common.{ap, arith}
 use Rattle.soc_bus.specs.View.{BusState}
 use Rattle.soc_bus.proofs.bus.Bus.masters.Goals as goal
 

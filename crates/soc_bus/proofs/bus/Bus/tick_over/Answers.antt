@@ -1,7 +1,6 @@
 -- A tick is the event of the core, and its row is shown.
-use Rattle.std.proofs.Common.{◌≡◌, ◌++◌, ℕ, List, length, take, drop, ap, sym, ◌∙◌, subst}
+use Rattle.std.proofs.Common.{◌≡◌, ◌++◌, List, length, take, drop, ap, sym, ◌∙◌, subst}
 use Rattle.std.proofs.lemmas.List.{take_at}
-use Rattle.wb_signals.specs.Bus.{Child}
 use Rattle.wb_signals.specs.Wave.{WaveRowState}
 use Rattle.wb_tree.specs.Tree.{node_slave}
 use Rattle.wb_crossbar.specs.Grant.{IsGrant}
