@@ -1,6 +1,6 @@
 //! A short record: one write and one read of 32 bits, told at once.
 
-ghost use Rattle.std.specs.Prelude.{◌≡◌, true, Some, take, bit_and};
+ghost use Rattle.std.specs.Prelude.{◌≡◌, ◌↔◌, IsTrue, Some, take};
 ghost use Rattle.eb_codec.specs.Reading.{record_of};
 ghost use Rattle.eb_codec.specs.Short.{BeginsShort, short_header, short_record};
 
@@ -26,7 +26,7 @@ pub struct ShortRecord {
 /// Whether records behind this header may be short.
 #[inline(always)]
 pub fn lets_short(header: Option<Header>) -> bool
-    ensures { result ≡ true → header ≡ Some short_header }
+    ensures lets { IsTrue result ↔ (header ≡ Some short_header) }
 {
     matches!(
         header,
@@ -41,7 +41,7 @@ pub fn lets_short(header: Option<Header>) -> bool
 /// Whether the octets begin with a short record, behind a header that lets it be one.
 #[inline(always)]
 pub fn begins_short(octets: &[u8]) -> bool
-    ensures { result ≡ true → BeginsShort octets.now }
+    ensures begins { IsTrue result ↔ BeginsShort octets.now }
 {
     if octets.len() < SHORT {
         return false;
