@@ -23,8 +23,8 @@ use wb_port::Port;
 use wb_signals::{Answer, PortRow};
 use wb_tree::Node;
 
-/// One clock, after the grants: what the ports drive, what the slaves make of it, and what the ports get. Where one port
-/// alone is active, the others are passed over.
+/// One clock, after the grants: what the ports drive, what the slaves make of it, and what the ports get. Where one
+/// port alone is active, the others are passed over.
 pub fn clock<P: PairRecorder>(
     crossbar: &mut Crossbar<Node>,
     cycles: &[Cycle<P>],
