@@ -2,7 +2,7 @@
 use Rattle.std.proofs.Common.{◌≡◌, ◌≢◌, ℕ, zero, suc, ◌+◌, ◌-◌, ◌<◌, ◌≤◌, List, [], ◌∷◌, length, get_or, set, map, slice_get, true, refl, ap, sym, ◌∙◌, arith, Option, Some, None, subst}
 use Rattle.std.specs.Option.{option_map}
 use Rattle.std.proofs.lemmas.List.{length-map}
-use Rattle.std.proofs.lemmas.Option.{slice_get-get_or, slice_get-map, get_or_from_slice_get}
+use Rattle.std.proofs.lemmas.Option.{slice_get-get_or, slice_get-map, slice_get_within, get_or_from_slice_get}
 use Rattle.eb_base.specs.declared.width.Width.{Width}
 use Rattle.wb_signals.specs.Wiring.{Wiring}
 use Rattle.wb_signals.specs.Bus.{bus}
@@ -20,11 +20,6 @@ use Rattle.wb_crossbar.proofs.TurnLemmas.{quiet_turn, quiet_row}
 use Rattle.wb_crossbar.proofs.TickLemmas.{no_row, Ticked, begins, can_turn, next}
 
 -- ---- the rows
-
-below : {A : Type 0} (xs : List A) (m : ℕ) (x : A) → slice_get xs m ≡ Some x → m < length xs
-below [] m x e = absurd (cc)
-below (y ∷ ys) zero x e = omega arith
-below (y ∷ ys) (suc m) x e = let l = below ys m x e in omega arith
 
 quiet_at : (wiring : Wiring) (owed : List Owed) (row : PortRow) → owed ≡ [] → asked row ≡ None → row_after wiring owed row ≡ unanswered row
 quiet_at wiring owed row nothing none = ap (λ owed. row_after wiring owed row) nothing ∙ quiet_row wiring row none
@@ -94,7 +89,7 @@ module _ (width : Width) (parts0 : List Part) (ports0 : List Debtor) (rows0 : Li
         (asks : (n : ℕ) (other : PortRow) → n ≢ m → slice_get rows0 n ≡ Some other → asked other ≡ None)
         (nothing : (n : ℕ) (o : List Owed) → n ≢ m → slice_get x.owed n ≡ Some o → o ≡ []) where
       in_rows : m < length rows0
-      in_rows = below rows0 m row own
+      in_rows = slice_get_within rows0 m row own
 
       same_row : get_or rows0 m no_row ≡ row
       same_row = get_or_from_slice_get rows0 m row no_row own

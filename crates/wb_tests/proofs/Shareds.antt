@@ -1,5 +1,5 @@
 -- A crossbar of one port that holds its one slave.
-use Rattle.std.proofs.Common.{◌≡◌, ℕ, zero, suc, ◌<◌, List, [], ◌∷◌, length, get_or, slice_get, refl, ap, sym, ◌∙◌, subst, arith, Option, Some, IfSome}
+use Rattle.std.proofs.Common.{◌≡◌, ◌≢◌, ℕ, zero, suc, ◌<◌, List, [], ◌∷◌, length, get_or, slice_get, refl, ap, sym, ◌∙◌, subst, arith, Option, Some, IfSome}
 use Rattle.std.proofs.lemmas.Option.{slice_get_within, get_or_from_slice_get}
 use Rattle.wb_signals.specs.Request.{Request, IsRequest}
 use Rattle.wb_signals.specs.Cycles.{FitsBus}
@@ -9,6 +9,7 @@ use Rattle.wb_signals.specs.Slave.{Owed}
 use Rattle.wb_signals.specs.Rows.{asked}
 use Rattle.wb_signals.specs.declared.port_row.PortRow.{PortRow}
 use Rattle.wb_crossbar.specs.Crossbar.{CrossbarState, CanTick, owed_after_all, wiring_of, after_tick}
+use Rattle.wb_crossbar.specs.Alone.{MayTickAlone}
 use Rattle.wb_crossbar.specs.Inside.{crossbar_of, IsCrossbar}
 use Rattle.wb_crossbar.specs.declared.crossbar.Crossbar.{Crossbar}
 use Rattle.wb_tree.specs.declared.node.Node.{Node}
@@ -44,6 +45,19 @@ can_tick x row rows holders op e h ports slaves asks operation fits = record {
   owes = λ m owed at i d lt below.
       let low : m < length x.owed = slice_get_within x.owed m owed at in
       only holders m _ h (omega (arith, low, ports)) (omega (arith, below, slaves));
+}
+
+-- no other port asks or is owed anything
+nothing_else : (owed : List (List Owed)) (n : ℕ) (own : List Owed) → length owed ≡ 1 → n ≢ 0 → slice_get owed n ≡ Some own → own ≡ []
+nothing_else owed n own e other at = let l = slice_get_within owed n own at in absurd (other (omega (arith, l, e)))
+
+pub can_alone : (x : CrossbarState) (row : PortRow) (op : Request) → length x.owed ≡ 1 → length x.children ≡ 1 → asked row ≡ Some op → IsRequest op → FitsBus x.width op
+    → MayTickAlone x (row ∷ []) 0 row
+can_alone x row op ports slaves asks operation fits = record {
+  can = (Some 0 ∷ [], can_tick x row (row ∷ []) (Some 0 ∷ []) op refl refl ports slaves asks operation fits);
+  own = refl;
+  asks = λ n r other at. absurd (other (let l = slice_get_within (row ∷ []) n r at in omega (arith, l)));
+  owed = λ n owed other at. nothing_else x.owed n owed ports other at;
 }
 
 owed_count : (wiring : Wiring) (contents : List Content) (owed : List (List Owed)) (rows : List PortRow) → length rows ≡ length owed

@@ -1,6 +1,8 @@
-ghost use Rattle.std.specs.Prelude.{◌≡◌, ◌%◌, ◌<◌, IfOk};
+ghost use Rattle.std.specs.Prelude.{◌≡◌, ◌%◌, ◌<◌, Some, IfOk};
 ghost use Rattle.eb_base.specs.declared.width.Width.TheVariants.{W32};
+ghost use Rattle.wb_signals.specs.Request.{IsRequest};
 ghost use Rattle.wb_signals.specs.Cycles.{FitsBus};
+ghost use Rattle.wb_signals.specs.Rows.{asked};
 ghost use Rattle.wb_tests.specs.Shared.{IsShared};
 
 use crate::clocked::{Course, PORTS, leaf, rom};
@@ -39,13 +41,12 @@ fn crossbar(alloc: Global, port: u8) -> Result<Crossbar<Node>, NoMemory>
     Ok(crossbar)
 }
 
-/// A clock in which the port, which holds the slave, requests an operation.
-fn clock(crossbar: &mut Crossbar<Node>, op: Op) -> PortRow
-    requires shared { IsShared crossbar.old }
-    requires fits { FitsBus W32 op }
-    ensures shared { IsShared crossbar.new }
+/// The row of a port that requests an operation.
+fn requesting(op: Op) -> PortRow
+    ensures asks { asked result ≡ Some op }
+    ensures operation { IsRequest op }
 {
-    let row = PortRow {
+    PortRow {
         cyc: true,
         stb: true,
         we: op.write,
@@ -53,10 +54,29 @@ fn clock(crossbar: &mut Crossbar<Node>, op: Op) -> PortRow
         dat: op.dat,
         sel: op.sel,
         ..PortRow::none()
-    };
-    let mut rows = [row];
+    }
+}
+
+/// A clock in which the port, which holds the slave, requests an operation.
+fn clock(crossbar: &mut Crossbar<Node>, op: Op) -> PortRow
+    requires shared { IsShared crossbar.old }
+    requires fits { FitsBus W32 op }
+    ensures shared { IsShared crossbar.new }
+{
+    let mut rows = [requesting(op)];
     crossbar.tick(&mut rows);
     rows[0]
+}
+
+/// The same clock, where it is said that no other port asks.
+fn clock_alone(crossbar: &mut Crossbar<Node>, op: Op) -> PortRow
+    requires shared { IsShared crossbar.old }
+    requires fits { FitsBus W32 op }
+    ensures shared { IsShared crossbar.new }
+{
+    let mut row = requesting(op);
+    crossbar.tick_alone(0, &mut row);
+    row
 }
 
 /// The course of an operation that is requested in each clock until it is answered.
@@ -96,6 +116,25 @@ fn one_port(rt: HostRuntime) -> Result<(), Fail> {
         let told = courses(rt.alloc(), port).ok().ok_or("room")?;
         assert_eq!(rt; told, (hit, miss), "{port}");
     }
+    Ok(())
+}
+
+/// Whether a lone port's clocks are those of all ports.
+fn same_clocks(alloc: Global) -> Result<bool, NoMemory> {
+    let mut all = crossbar(alloc, 16)?;
+    let mut alone = crossbar(alloc, 16)?;
+    for _ in 0..4 {
+        if clock_alone(&mut alone, read(4)) != clock(&mut all, read(4)) {
+            return Ok(false);
+        }
+    }
+    Ok(true)
+}
+
+#[test]
+fn one_port_alone(rt: HostRuntime) -> Result<(), Fail> {
+    let same = same_clocks(rt.alloc()).ok().ok_or("room")?;
+    assert!(rt; same);
     Ok(())
 }
 
