@@ -1,5 +1,5 @@
 -- What a short record asks, and what it is answered.
-use Rattle.std.proofs.Common.{◌≡◌, ℕ, ◌+◌, ◌*◌, ◌%◌, ◌^◌, Bool, false, if◌then◌else◌, List, [], ◌∷◌, ◌++◌, length, Option, Some, Result, Ok, Err, refl, sym, ap, ◌∙◌, arith, slice_get, slice_index_or}
+use Rattle.std.proofs.Common.{◌≡◌, ℕ, ◌+◌, ◌*◌, ◌%◌, ◌^◌, Bool, false, if◌then◌else◌, List, [], ◌∷◌, ◌++◌, length, Option, Some, Result, Ok, Err, refl, sym, ap, subst, ◌∙◌, arith, slice_get, slice_index_or}
 use Rattle.std.proofs.lemmas.List.{append-nil}
 use Rattle.std.specs.List.{flat_map}
 use Rattle.std.specs.Prelude.{OnErr}
@@ -37,8 +37,8 @@ no_read_config : (f : ℕ) → IsShortFlags f → has f RCA ≡ false
 no_read_config f s = by_flags (λ (n : ℕ). has n RCA ≡ false) f s refl refl refl refl
 
 -- its operations
-pub short_ops : (bus : Width) (s : ShortRecord) → bus ≡ W32 → IsShortFlags s.flags → write_at W32 short_header (short_record s) 0 ∷ read_at W32 short_header (short_record s) 0 ∷ [] ≡ record_ops bus short_header (short_record s)
-short_ops bus s is f =
+ops_of : (bus : Width) (s : ShortRecord) → bus ≡ W32 → IsShortFlags s.flags → write_at W32 short_header (short_record s) 0 ∷ read_at W32 short_header (short_record s) 0 ∷ [] ≡ record_ops bus short_header (short_record s)
+ops_of bus s is f =
     let r : Record = short_record s in
     let w : record_ops W32 short_header r ≡ write_at W32 short_header r 0 ∷ upto (bus_reads r) (read_at W32 short_header r) = ap (λ (b : Bool). upto (if b then 0 else 1) (write_at W32 short_header r) ++ upto (bus_reads r) (read_at W32 short_header r)) (no_write_config s.flags f) in
     let q : write_at W32 short_header r 0 ∷ upto (bus_reads r) (read_at W32 short_header r) ≡ write_at W32 short_header r 0 ∷ read_at W32 short_header r 0 ∷ [] = ap (λ (b : Bool). write_at W32 short_header r 0 ∷ upto (if b then 0 else 1) (read_at W32 short_header r)) (no_read_config s.flags f) in
@@ -70,34 +70,35 @@ reply_is slave s a b e is f =
     words_reply slave short_header r r.head (a ∷ b ∷ []) e [] top top (top ++ octets_of W32 s.return_base) (short_reply s b) (short_reply s b) (reply_flags s.flags) 4 0 refl (omega arith) refl refl refl
     refl refl (ap (λ (l : List ℕ). top ++ l) base) (ap (λ (l : List ℕ). (top ++ octets_of W32 s.return_base) ++ l) one) (sym (append-nil (short_reply s b)))
 
-module _ (v : SessionState) (s : ShortRecord) (bus : v.slave.bus ≡ W32) (header : v.progress.header ≡ Some short_header) (shown : v.progress.shown ≡ Some (short_record s)) (flags : IsShortFlags s.flags) (w r : Request)
-    (w-is : w ≡ write_at W32 short_header (short_record s) 0) (r-is : r ≡ read_at W32 short_header (short_record s) 0) where
-  ops_are : w ∷ r ∷ [] ≡ record_ops v.slave.bus short_header (short_record s)
-  ops_are = (λ i. w-is i ∷ r-is i ∷ []) ∙ short_ops v.slave.bus s bus flags
+module _ (v : SessionState) (s : ShortRecord) (bus : v.slave.bus ≡ W32) (header : v.progress.header ≡ Some short_header) (shown : v.progress.shown ≡ Some (short_record s)) (flags : IsShortFlags s.flags) (ops : List Request)
+    (is : ops ≡ write_at W32 short_header (short_record s) 0 ∷ read_at W32 short_header (short_record s) 0 ∷ []) where
+  ops_are : ops ≡ record_ops v.slave.bus short_header (short_record s)
+  ops_are = is ∙ ops_of v.slave.bus s bus flags
 
   -- it ran
-  pub short_ran : (m : ℕ) (k : SessionState) (before after : MasterCycles) (told : List Answer) (a b : Answer) (first errors : ℕ) (reply : List ℕ) (last : Bool) → k ≡ v → length (answered_to (w ∷ r ∷ []) told) ≡ length (w ∷ r ∷ [])
-      → after ≡ pairs_added m before (paired (w ∷ r ∷ []) (answered_to (w ∷ r ∷ []) told)) last → last ≡ has s.flags CYC → slice_get told 0 ≡ Some a → slice_get told 1 ≡ Some b
+  pub short_ran : (m : ℕ) (k : SessionState) (before after : MasterCycles) (told : List Answer) (a b : Answer) (first errors : ℕ) (reply : List ℕ) (last : Bool) → k ≡ v → length (answered_to ops told) ≡ length ops
+      → after ≡ pairs_added m before (paired ops (answered_to ops told)) last → last ≡ ends_cycle (short_record s) → slice_get told 0 ≡ Some a → slice_get told 1 ≡ Some b
       → first ≡ (2 * k.errors + failed a) % 2 ^ 64 → errors ≡ (2 * first + failed b) % 2 ^ 64 → reply ≡ short_reply s b
       → (x : List Answer) × RecordRan m v (record k { errors = errors; reply = reply }) before after (record_in v.progress.shown) x
   short_ran m k before after told a b first errors reply last view long added ends p q f e re =
-      let two : told ≡ a ∷ b ∷ [] = two_answers told a b long p q in
-      let back = sym view in
+      let answers : List Answer = answered_to ops told in
+      let count : length told ≡ 2 = subst (λ (l : List Request). length (answered_to l told) ≡ length l) is long in
+      let two : answers ≡ a ∷ b ∷ [] = ap (λ (l : List Request). answered_to l told) is ∙ two_answers told a b count p q in
       let bus-is : k.slave.bus ≡ W32 = ap (λ (x : SessionState). x.slave.bus) view ∙ bus in
       let head : k.progress.header ≡ Some short_header = ap (λ (x : SessionState). x.progress.header) view ∙ header in
       let item : k.progress.shown ≡ Some (short_record s) = ap (λ (x : SessionState). x.progress.shown) view ∙ shown in
-      let ops : w ∷ r ∷ [] ≡ record_ops k.slave.bus short_header (short_record s) = ops_are ∙ ap (λ (x : SessionState). record_ops x.slave.bus short_header (short_record s)) back in
-      let new : errors ≡ register k.errors told = e ∙ ap (λ (n : ℕ). (2 * n + failed b) % 2 ^ 64) f ∙ ap (register k.errors) (sym two) in
-      let is : reply ≡ record_reply k.slave short_header (short_record s) told (register k.errors told) =
-      re ∙ reply_is k.slave s a b (register k.errors told) bus-is flags ∙ ap (λ (l : List Answer). record_reply k.slave short_header (short_record s) l (register k.errors told)) (sym two) in
-      record_ran m k v short_header (short_record s) before after (w ∷ r ∷ []) told errors reply last view head item ops long ends added new is
+      let ops-are : ops ≡ record_ops k.slave.bus short_header (short_record s) = is ∙ ops_of k.slave.bus s bus-is flags in
+      let new : errors ≡ register k.errors answers = e ∙ ap (λ (n : ℕ). (2 * n + failed b) % 2 ^ 64) f ∙ ap (register k.errors) (sym two) in
+      let reply-is : reply ≡ record_reply k.slave short_header (short_record s) answers (register k.errors answers) =
+      re ∙ reply_is k.slave s a b (register k.errors answers) bus-is flags ∙ ap (λ (l : List Answer). record_reply k.slave short_header (short_record s) l (register k.errors answers)) (sym two) in
+      record_ran m k v short_header (short_record s) before after ops answers errors reply last view head item ops-are long ends added new reply-is
 
   -- it asked the master, which had no memory
   pub short_unrun : (before after : MasterCycles) → after ≡ before → Unrun v v before after
   short_unrun before after same =
-      let are : item_ops v.slave.bus v.progress.header (Recorded (record_in v.progress.shown)) ≡ w ∷ r ∷ [] =
+      let are : item_ops v.slave.bus v.progress.header (Recorded (record_in v.progress.shown)) ≡ ops =
       (λ i. item_ops v.slave.bus (header i) (Recorded (record_in (shown i)))) ∙ sym ops_are in
-      record { kept = refl; same = same; asked = λ none. let e : w ∷ r ∷ [] ≡ [] = sym are ∙ none in absurd (cc e) }
+      record { kept = refl; same = same; asked = λ none. let e : write_at W32 short_header (short_record s) 0 ∷ read_at W32 short_header (short_record s) 0 ∷ [] ≡ [] = sym is ∙ sym are ∙ none in absurd (cc e) }
 
 pub on_err : {A E : Type 0} (P : Type 0) (x : Result A E) → P → OnErr x P
 on_err P (Ok a) p = tt

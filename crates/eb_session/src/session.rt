@@ -11,7 +11,7 @@ use crate::configuration::{shift, shifted};
 use crate::operations::{is_last, put_ops};
 use crate::replying::{put_header, put_probe, put_reply};
 use crate::running::{cut_open, run_ops};
-use crate::short::{put_short, short_read, short_write};
+use crate::short::{put_short, short_ends, short_ops};
 use crate::slave::{Slave, widths};
 use eb_base::{NoMemory, Width};
 use eb_codec::short::SHORT;
@@ -268,8 +268,7 @@ impl Session {
         ensures unrun { OnErr result (Unrun self.old self.new (M.cycles master.old) (M.cycles master.new)) }
         ensures identity { M.identity master.new ≡ M.identity master.old }
     {
-        let ops = [short_write(short), short_read(short)];
-        run_ops(alloc, master, &ops, is_last(short.flags))?;
+        run_ops(alloc, master, &short_ops(short), short_ends(short))?;
         let (wrote, read) = (master.answer(0), master.answer(1));
         self.errors = shift(shift(self.errors, wrote), read);
         put_short(short, read, &mut self.reply);
