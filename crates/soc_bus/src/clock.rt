@@ -5,15 +5,14 @@ ghost use Rattle.std.specs.Option.{is_some};
 ghost use Rattle.wb_signals.specs.Request.{Request, IsRequest};
 ghost use Rattle.wb_signals.specs.Rows.{asked};
 ghost use Rattle.wb_signals.specs.declared.port_row.PortRow.{PortRow};
-ghost use Rattle.wb_port.specs.Port.{PortState, driven, sampled};
+ghost use Rattle.wb_port.specs.Port.{PortState, driven};
 ghost use Rattle.wb_tree.specs.Tree.{node_slave, IsSound};
 ghost use Rattle.wb_crossbar.specs.Crossbar.{wiring_of, rows_after, after_tick};
 ghost use Rattle.wb_crossbar.specs.Inside.{crossbar_of, IsCrossbar};
-ghost use Rattle.soc_core.specs.Core.{held_by};
 ghost use Rattle.soc_bus.specs.View.{states};
 ghost use Rattle.soc_bus.specs.Clocked.{driving, driven_rows, is_sent, answer_got, sampled_all, IsHeldAlso, AreServed, AreOperations};
 ghost use Rattle.soc_bus.specs.Alone.{AreOthersDone};
-ghost use Rattle.soc_wave.specs.Shown.{holder_from, holders_from};
+ghost use Rattle.soc_wave.specs.Shown.{holders_from};
 
 use crate::alone::{Active, active_in, clock_one, rest_all};
 use crate::cycle::Cycle;
@@ -23,8 +22,8 @@ use wb_port::Port;
 use wb_signals::{Answer, PortRow};
 use wb_tree::Node;
 
-/// One clock, after the grants: what the ports drive, what the slaves make of it, and what the ports get. Where one port
-/// alone is active, the others are passed over.
+/// One clock, after the grants: what the ports drive, what the slaves make of it, and what the ports get. Where one
+/// port alone is active, the others are passed over.
 pub fn clock<P: PairRecorder>(
     crossbar: &mut Crossbar<Node>,
     cycles: &[Cycle<P>],
