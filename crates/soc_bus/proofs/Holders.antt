@@ -1,44 +1,36 @@
 -- Who holds a top slave.
-use Rattle.std.proofs.Common.{◌≡◌, ℕ, zero, suc, ◌+◌, ◌<◌, ◌≤◌, ◌==◌, List, [], ◌∷◌, ◌++◌, length, get_or, set, take, drop, slice_get, true, false, cond, Option, Some, None, refl, ap, sym, ◌∙◌, arith}
+use Rattle.std.proofs.Common.{◌≡◌, ℕ, zero, suc, ◌+◌, ◌<◌, ◌≤◌, ◌==◌, List, [], ◌∷◌, length, get_or, drop, slice_get, true, false, cond, Option, Some, None, refl, ap, ◌∙◌, arith}
 use Rattle.std.specs.Int.{bit_at}
 use Rattle.std.proofs.lemmas.Bool.{cond-true, cond-false}
-use Rattle.std.proofs.lemmas.List.{take_more_set, drop_more, drop_all}
 use Rattle.soc_core.specs.Core.{CorePort, resting_port, held_by}
 use Rattle.soc_bus.specs.View.{CycleView, states}
 use Rattle.soc_wave.specs.Shown.{holder_from, holders_from}
 
 -- ---- as they are computed
 
-abbrev pub Looked : List CycleView → ℕ → ℕ → Type 0
-Looked cycles slave m = holder_from 0 (states cycles) slave ≡ holder_from m (states (drop m cycles)) slave
+-- who holds each slave of the ports from m on
+pub record AreHeldFrom (cycles : List CycleView) (holders : List (Option ℕ)) (n m : ℕ) : Type 0 where
+  pub long : length holders ≡ n
+  pub each : (k : ℕ) → k < n → get_or holders k None ≡ holder_from m (states (drop m cycles)) k
 
-at_port : (cycles : List CycleView) (slave m : ℕ) (r : CycleView) → m < length cycles → r ≡ get_or cycles m r
-    → holder_from m (states (drop m cycles)) slave ≡ cond (bit_at (held_by r.state.phase) slave == 1) (Some m) (holder_from (suc m) (states (drop (m + 1) cycles)) slave)
-at_port cycles slave m r within is = ap (λ cs. holder_from m (states cs) slave) (drop_more cycles m r within ∙ ap (λ x. x ∷ drop (m + 1) cycles) (sym is))
+held_are : (ports : List CorePort) (s : ℕ) (holders : List (Option ℕ)) → ((k : ℕ) → k < length holders → get_or holders k None ≡ holder_from 0 ports (s + k)) → holders ≡ holders_from ports s (length holders)
+held_are ports s [] each = refl
+held_are ports s (h ∷ holders) each =
+    let one : h ≡ holder_from 0 ports s = each 0 (omega arith) ∙ ap (holder_from 0 ports) (let e : s + 0 ≡ s = omega arith in e) in
+    let more = held_are ports (suc s) holders (λ k l. each (suc k) (omega (arith, l)) ∙ ap (holder_from 0 ports) (let e : s + suc k ≡ suc s + k = omega arith in e)) in
+    λ i. one i ∷ more i
 
-pub holder_here : (cycles : List CycleView) (slave m : ℕ) (r : CycleView) → m < length cycles → r ≡ get_or cycles m r → (bit_at (held_by r.state.phase) slave == 1) ≡ true
-    → Looked cycles slave m → holder_from 0 (states cycles) slave ≡ Some m
-holder_here cycles slave m r within is yes_ so_far = so_far ∙ at_port cycles slave m r within is ∙ cond-true _ _ _ yes_
+pub held_all : (cycles : List CycleView) (holders : List (Option ℕ)) (n m : ℕ) → m ≡ 0 → AreHeldFrom cycles holders n m → holders ≡ holders_from (states cycles) 0 n
+held_all cycles holders n m zero_ held =
+    held_are (states cycles) 0 holders
+    (λ k l. held.each k (let b = held.long in omega (arith, b, l)) ∙ ap (λ j. holder_from j (states (drop j cycles)) k) zero_ ∙ ap (holder_from 0 (states cycles)) (let e : k ≡ 0 + k = omega arith in e))
+    ∙ ap (holders_from (states cycles) 0) held.long
 
-pub holder_past : (cycles : List CycleView) (slave m : ℕ) (r : CycleView) → m < length cycles → r ≡ get_or cycles m r → (bit_at (held_by r.state.phase) slave == 1) ≡ false
-    → Looked cycles slave m → Looked cycles slave (m + 1)
-holder_past cycles slave m r within is no_ so_far =
-    so_far ∙ at_port cycles slave m r within is ∙ cond-false _ _ _ no_ ∙ ap (λ k. holder_from k (states (drop (m + 1) cycles)) slave) (let e : suc m ≡ m + 1 = omega arith in e)
-
-pub holder_none : (cycles : List CycleView) (slave m : ℕ) → length cycles ≤ m → Looked cycles slave m → holder_from 0 (states cycles) slave ≡ None
-holder_none cycles slave m past so_far = so_far ∙ ap (λ cs. holder_from m (states cs) slave) (drop_all m cycles past)
-
-holders_next : (ports : List CorePort) (s n : ℕ) → holders_from ports s (suc n) ≡ holders_from ports s n ++ holder_from 0 ports (s + n) ∷ []
-holders_next ports s zero = ap (λ k. holder_from 0 ports k ∷ []) (let e : s ≡ s + 0 = omega arith in e)
-holders_next ports s (suc n) =
-    ap (λ hs. holder_from 0 ports s ∷ hs)
-    (holders_next ports (suc s) n ∙ ap (λ k. holders_from ports (suc s) n ++ holder_from 0 ports k ∷ []) (let e : suc s + n ≡ s + suc n = omega arith in e))
-
-pub holders_more : (ports : List CorePort) (holders : List (Option ℕ)) (i : ℕ) (h : Option ℕ) → i < length holders → h ≡ holder_from 0 ports i → take i holders ≡ holders_from ports 0 i
-    → take (i + 1) (set holders i h) ≡ holders_from ports 0 (i + 1)
-holders_more ports holders i h within is so_far =
-    take_more_set holders i h within ∙ ap (λ hs. hs ++ h ∷ []) so_far ∙ ap (λ x. holders_from ports 0 i ++ x ∷ []) is
-    ∙ ap (λ k. holders_from ports 0 i ++ holder_from 0 ports k ∷ []) (let z : i ≡ 0 + i = omega arith in z) ∙ sym (holders_next ports 0 i) ∙ ap (holders_from ports 0) (let e : suc i ≡ i + 1 = omega arith in e)
+-- the slaves of one port, those before this one
+pub record HasHeld (set_ m : ℕ) (old now : List (Option ℕ)) (i : ℕ) : Type 0 where
+  pub long : length now ≡ length old
+  pub done : (k : ℕ) → k < i → get_or now k None ≡ cond (bit_at set_ k == 1) (Some m) (get_or old k None)
+  pub later : (k : ℕ) → i ≤ k → get_or now k None ≡ get_or old k None
 
 -- ---- what they are
 

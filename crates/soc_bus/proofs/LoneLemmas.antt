@@ -1,8 +1,7 @@
 -- A clock in which one port alone has a request or is owed an answer, or none has.
-use Rattle.std.proofs.Common.{◌≡◌, ◌≢◌, ◌⊎◌, inl, inr, ◌<◌, ◌≤◌, ◌+◌, ◌==◌, ℕ, zero, suc, Bool, true, false, List, [], ◌∷◌, ◌++◌, length, get_or, set, take, map, slice_get, Option, Some, None, refl, ap, sym, ◌∙◌, subst, arith}
+use Rattle.std.proofs.Common.{◌≡◌, ◌≢◌, ◌⊎◌, inl, inr, ◌<◌, ◌≤◌, ◌+◌, ℕ, zero, suc, Bool, true, List, [], ◌∷◌, ◌++◌, length, get_or, set, take, map, slice_get, Option, Some, None, refl, ap, sym, ◌∙◌, arith}
 use Rattle.std.proofs.lemmas.List.{length-map, map-append, take_more, take_more_set, get_or_default, length-set, get_or-set_same}
 use Rattle.std.proofs.lemmas.Option.{slice_get-get_or, slice_get_within}
-use Rattle.std.proofs.Math.Nat.{eq-or-lt_of_le}
 use Rattle.std.specs.Option.{is_some}
 use Rattle.eb_base.specs.declared.width.Width.{Width}
 use Rattle.wb_signals.specs.Request.{Request, IsRequest}
@@ -20,9 +19,7 @@ use Rattle.soc_core.specs.Core.{CorePort as Cycle}
 use Rattle.soc_core.specs.Sound.{is_busy_phase}
 use Rattle.soc_bus.specs.View.{CycleView, states}
 use Rattle.soc_bus.specs.Clocked.{driving, driven_rows, is_sent, answer_got, sampled_all, waiting, place_of, IsServed, AreServed, AreOperations}
-use Rattle.soc_bus.specs.Alone.{AreAllDone, AreOthersDone, resting_rows, with_active, IsActive}
-use Rattle.soc_bus.specs.declared.alone.Active.{Active}
-use Rattle.soc_bus.specs.declared.alone.Active.TheVariants.{Nobody, One, Many}
+use Rattle.soc_bus.specs.Alone.{AreAllDone, AreOthersDone, resting_rows}
 use Rattle.soc_bus.proofs.ServedLemmas.{asked-driving, driven_at, count-waiting, row_of, can_tick, can_pass, can_answer}
 use Rattle.soc_bus.proofs.CycleLists.{get_state}
 use Rattle.soc_bus.proofs.RowLemmas.{busy, no_port}
@@ -256,55 +253,6 @@ module _ (x : CrossbarState) (holders : List (Option ℕ)) (cs : List Cycle) (ps
   quiet_engines =
       let q = quiet_rows (wiring_of x) x.owed cs ps count (sym served.count) none_drive nothing_owed in
       sym (ap (sampled_all ps) q.0 ∙ sampled_none cs ps count none_drive)
-
--- ---- as it is computed
-
--- which of the ports before this one are active
-abbrev pub ActiveBelow : Active → List PortState → ℕ → Type 0
-ActiveBelow Nobody ps i = (n : ℕ) (p : PortState) → n < i → slice_get ps n ≡ Some p → length p.answers ≡ length p.loaded
-ActiveBelow (One m) ps i = (m < i) × ((n : ℕ) (p : PortState) → n < i → n ≢ m → slice_get ps n ≡ Some p → length p.answers ≡ length p.loaded)
-ActiveBelow Many ps i = Unit {0}
-
-here : (ps : List PortState) (i : ℕ) (p : PortState) (n : ℕ) (q : PortState) → slice_get ps i ≡ Some p → true ≡ (length p.answers == length p.loaded) → n ≡ i → slice_get ps n ≡ Some q
-    → length q.answers ≡ length q.loaded
-here ps i p n q is done s e =
-    let some : Some p ≡ Some q = sym is ∙ ap (slice_get ps) (sym s) ∙ e in
-    let same : p ≡ q = cc in
-    subst (λ (q : PortState). length q.answers ≡ length q.loaded) same (grind (arith, done))
-
-before : (n i : ℕ) → n < i + 1 → n ≢ i → n < i
-before n i l other = elim (eq-or-lt_of_le (let le : n ≤ i = omega (arith, l) in le)) [ inl s ↦ absurd (other s) | inr b ↦ b ]
-
-pub active_more : (active : Active) (ps : List PortState) (i : ℕ) (p : PortState) (done : Bool) → slice_get ps i ≡ Some p → done ≡ (length p.answers == length p.loaded) → ActiveBelow active ps i
-    → ActiveBelow (with_active active i done) ps (i + 1)
-active_more Nobody ps i p true is done below = λ n q l e. by_case n q e (eq-or-lt_of_le (let le : n ≤ i = omega (arith, l) in le))
-  where
-    by_case : (n : ℕ) (q : PortState) → slice_get ps n ≡ Some q → (n ≡ i) ⊎ (n < i) → length q.answers ≡ length q.loaded
-    by_case n q e (inl s) = here ps i p n q is done s e
-    by_case n q e (inr b) = below n q b e
-active_more (One m) ps i p true is done below = (
-  (let l = below.0 in omega (arith, l)),
-  λ n q l other e. by_case n q other e (eq-or-lt_of_le (let le : n ≤ i = omega (arith, l) in le)),
-)
-  where
-    by_case : (n : ℕ) (q : PortState) → n ≢ m → slice_get ps n ≡ Some q → (n ≡ i) ⊎ (n < i) → length q.answers ≡ length q.loaded
-    by_case n q other e (inl s) = here ps i p n q is done s e
-    by_case n q other e (inr b) = below.1 n q b other e
-active_more Many ps i p true is done below = tt
-active_more Nobody ps i p false is done below = (
-  (omega arith),
-  λ n q l other e. below n q (before n i l other) e,
-)
-active_more (One m) ps i p false is done below = tt
-active_more Many ps i p false is done below = tt
-
-pub active_all : (active : Active) (ps : List PortState) (i : ℕ) → length ps ≡ i → ActiveBelow active ps i → IsActive active ps
-active_all Nobody ps i end below = λ n p e. below n p (let b = slice_get_within ps n p e in omega (arith, b, end)) e
-active_all (One m) ps i end below = (
-  (let l = below.0 in omega (arith, l, end)),
-  λ n p other e. below.1 n p (let b = slice_get_within ps n p e in omega (arith, b, end)) other e,
-)
-active_all Many ps i end below = tt
 
 -- ---- the rows of ports that drive nothing, one by one
 

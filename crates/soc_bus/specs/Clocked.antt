@@ -1,5 +1,6 @@
 -- One clock of the ports of a bus: what they drive, and what they make of the slaves' answers.
-use Rattle.std.specs.Prelude.{◌≡◌, ◌≤◌, ℕ, Bool, true, false, if◌then◌else◌, ◌&&◌, not, List, [], ◌∷◌, length, map, take, drop, slice_get, Option, Some, None, All}
+use Rattle.std.specs.Prelude.{◌≡◌, ◌≤◌, ◌<◌, ◌==◌, ℕ, Bool, true, false, if◌then◌else◌, ◌&&◌, not, List, [], ◌∷◌, length, map, take, drop, slice_get, slice_index_or, Option, Some, None, All}
+use Rattle.std.specs.Int.{bit_at}
 use Rattle.wb_signals.specs.Request.{Request, IsRequest}
 use Rattle.wb_signals.specs.Cycles.{FitsBus}
 use Rattle.wb_signals.specs.Slave.{Owed, queue_to}
@@ -39,6 +40,10 @@ abbrev pub sampled_all : List engine.PortState → List PortRow → List engine.
 sampled_all [] rows = []
 sampled_all (p ∷ ports) [] = []
 sampled_all (p ∷ ports) (row ∷ rows) = sampled p (is_sent row) (answer_got row) ∷ sampled_all ports rows
+
+-- Who holds each slave where a port holds these also.
+abbrev pub IsHeldAlso : ℕ → ℕ → List (Option ℕ) → List (Option ℕ) → Type 0
+IsHeldAlso set m old new = (k : ℕ) → k < length old → slice_index_or new k None ≡ (if bit_at set k == 1 then Some m else slice_index_or old k None)
 
 -- ---- the condition of a clock
 

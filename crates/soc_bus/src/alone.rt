@@ -1,12 +1,12 @@
 //! A clock in which one port alone has a request or is owed an answer.
-ghost use Rattle.std.specs.Prelude.{◌≡◌, ◌<◌, length, slice_set};
+ghost use Rattle.std.specs.Prelude.{◌≡◌, ◌≤◌, ◌<◌, length, slice_set};
 ghost use Rattle.wb_tree.specs.Tree.{node_slave, IsSound};
 ghost use Rattle.wb_crossbar.specs.Crossbar.{wiring_of, rows_after, after_tick};
 ghost use Rattle.wb_crossbar.specs.Inside.{crossbar_of, IsCrossbar};
 ghost use Rattle.soc_wave.specs.Shown.{holders_from};
 ghost use Rattle.soc_bus.specs.View.{states};
 ghost use Rattle.soc_bus.specs.Clocked.{driven_rows, sampled_all, AreServed};
-ghost use Rattle.soc_bus.specs.Alone.{IsActive, with_active, AreOthersDone, resting_rows};
+ghost use Rattle.soc_bus.specs.Alone.{IsActive, AreDoneBetween, AreOthersDone, resting_rows};
 
 use crate::clock::{answer_got, driving, is_sent};
 use crate::cycle::Cycle;
@@ -28,24 +28,28 @@ pub enum Active {
 pub fn active_in(ports: &[Port]) -> Active
     ensures active { IsActive result ports.now }
 {
-    let mut active = Active::Nobody;
-    for m in 0..ports.len() {
-        active = with_port(active, m, ports[m].done());
+    let first = first_active(ports, 0);
+    if first == ports.len() {
+        return Active::Nobody;
     }
-    active
+    if first_active(ports, first + 1) < ports.len() {
+        return Active::Many;
+    }
+    Active::One(first)
 }
 
-/// One more port, which has all its answers or hasn't.
-fn with_port(active: Active, m: usize, done: bool) -> Active
-    ensures active { result ≡ with_active active m done }
+/// The first port from here on that has a request or is owed an answer, or the number of ports.
+fn first_active(ports: &[Port], from: usize) -> usize
+    requires from { from ≤ length ports.now }
+    ensures within { result ≤ length ports.now }
+    ensures done { AreDoneBetween from result ports.now }
 {
-    if done {
-        return active;
+    for m in from..ports.len() {
+        if !ports[m].done() {
+            return m;
+        }
     }
-    match active {
-        Active::Nobody => Active::One(m),
-        _ => Active::Many,
-    }
+    ports.len()
 }
 
 /// One clock in which all ports but one have all their answers. Only that port drives a row, which is returned as the

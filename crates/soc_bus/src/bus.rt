@@ -1,12 +1,10 @@
 //! The bus.
-ghost use Rattle.std.specs.List.{list_all};
-ghost use Rattle.std.specs.Prelude.{IsTrue, ◌≡◌, ◌==◌, true, ◌≢◌, ◌↔◌, ◌≤◌, ◌<◌, ◌^◌, ◌+◌, ℕ, length, take, replicate, [], false, IfOk, OnOk, OnErr, None, Some, slice_get};
+ghost use Rattle.std.specs.Prelude.{IsTrue, ◌≡◌, ◌≢◌, ◌↔◌, ◌≤◌, ◌<◌, ◌+◌, length, take, replicate, [], false, IfOk, OnOk, OnErr, Some, slice_get};
 ghost use Rattle.soc_desc.specs.Accepted.{IsAccepted};
-ghost use Rattle.wb_crossbar.specs.Grant.{IsGrant, IsNext};
 ghost use Rattle.wb_port.specs.Port.{idle_port as idle_engine};
 ghost use Rattle.soc_core.specs.Built.{fabric_of, set_of_cycle};
 ghost use Rattle.wb_signals.specs.Cycles.{made_with};
-ghost use Rattle.soc_core.specs.Core.{Core, port, resting_port, resting_ports, built_core, is_idle, is_granted, pending, raised, loaded, taken, released, granted_from, held, wants_of, CanRaise, CanLoad, CanTake, CanRelease, IsTick};
+ghost use Rattle.soc_core.specs.Core.{port, resting_port, resting_ports, built_core, is_idle, is_granted, pending, raised, loaded, taken, released, CanRaise, CanLoad, CanTake, CanRelease, IsTick};
 ghost use Rattle.soc_core.specs.Sound.{is_busy_phase};
 ghost use Rattle.soc_wave.specs.Shown.{ShowsTick, holders_from};
 ghost use Rattle.soc_bus.specs.Local.{AllIdle};

@@ -1,19 +1,18 @@
 //! One clock of all ports.
-ghost use Rattle.std.specs.Prelude.{◌≡◌, ◌≢◌, ◌≤◌, ◌<◌, ◌==◌, ℕ, Some, None, true, length, slice_get};
+ghost use Rattle.std.specs.Prelude.{◌≡◌, ◌≢◌, ◌≤◌, ◌<◌, ◌==◌, ℕ, Some, None, true, if◌then◌else◌, length, slice_get, slice_index_or};
 ghost use Rattle.std.specs.Int.{bit_at};
 ghost use Rattle.std.specs.Option.{is_some};
 ghost use Rattle.wb_signals.specs.Request.{Request, IsRequest};
 ghost use Rattle.wb_signals.specs.Rows.{asked};
 ghost use Rattle.wb_signals.specs.declared.port_row.PortRow.{PortRow};
-ghost use Rattle.wb_port.specs.Port.{PortState, driven, sampled};
+ghost use Rattle.wb_port.specs.Port.{PortState, driven};
 ghost use Rattle.wb_tree.specs.Tree.{node_slave, IsSound};
 ghost use Rattle.wb_crossbar.specs.Crossbar.{wiring_of, rows_after, after_tick};
 ghost use Rattle.wb_crossbar.specs.Inside.{crossbar_of, IsCrossbar};
-ghost use Rattle.soc_core.specs.Core.{held_by};
 ghost use Rattle.soc_bus.specs.View.{states};
-ghost use Rattle.soc_bus.specs.Clocked.{driving, driven_rows, is_sent, answer_got, sampled_all, AreServed, AreOperations};
+ghost use Rattle.soc_bus.specs.Clocked.{driving, driven_rows, is_sent, answer_got, sampled_all, IsHeldAlso, AreServed, AreOperations};
 ghost use Rattle.soc_bus.specs.Alone.{AreOthersDone};
-ghost use Rattle.soc_wave.specs.Shown.{holder_from, holders_from};
+ghost use Rattle.soc_wave.specs.Shown.{holders_from};
 
 use crate::alone::{Active, active_in, clock_one, rest_all};
 use crate::cycle::Cycle;
@@ -156,28 +155,59 @@ fn clock_all<P: PairRecorder>(
 }
 
 /// The port that holds each top slave.
+///
+/// The ports are looked at from the last one on, so that a slave is shown with the first that holds it.
 pub fn hold_all<P: PairRecorder>(cycles: &[Cycle<P>], holders: &mut [Option<u8>])
     requires few { length cycles.now ≤ 16 }
     requires most { length holders.old ≤ 128 }
     ensures holders { holders.new ≡ holders_from (states cycles.now) 0 (length holders.old) }
     ensures length { length holders.new ≡ length holders.old }
 {
-    for i in 0..holders.len() {
-        holders[i] = holder_of(cycles, i);
+    hold_none(holders);
+    let count = cycles.len();
+    for i in 0..count {
+        let m = count - 1 - i;
+        hold_set(holders, cycles[m].held(), m as u8);
     }
 }
 
-fn holder_of<P: PairRecorder>(cycles: &[Cycle<P>], slave: usize) -> Option<u8>
-    requires few { length cycles.now ≤ 16 }
-    requires below { slave < 128 }
-    ensures holder { result ≡ holder_from 0 (states cycles.now) slave }
+/// Nobody holds a slave.
+fn hold_none(holders: &mut [Option<u8>])
+    ensures none { (k : ℕ) → slice_index_or holders.new k None ≡ None }
+    ensures length { length holders.new ≡ length holders.old }
 {
-    for m in 0..cycles.len() {
-        if has(cycles[m].held(), slave) {
-            return Some(m as u8);
-        }
+    for i in 0..holders.len() {
+        holders[i] = None;
     }
-    None
+}
+
+/// A port holds the slaves of its set. Most ports hold none.
+fn hold_set(holders: &mut [Option<u8>], set: u128, m: u8)
+    requires most { length holders.old ≤ 128 }
+    ensures given { IsHeldAlso set m holders.old holders.new }
+    ensures length { length holders.new ≡ length holders.old }
+{
+    if set != 0 {
+        hold_some(holders, set, m);
+    }
+}
+
+/// A port holds the slaves of its set.
+fn hold_some(holders: &mut [Option<u8>], set: u128, m: u8)
+    requires most { length holders.old ≤ 128 }
+    ensures given { IsHeldAlso set m holders.old holders.new }
+    ensures length { length holders.new ≡ length holders.old }
+{
+    for i in 0..holders.len() {
+        holders[i] = held_also(has(set, i), m, holders[i]);
+    }
+}
+
+/// Who holds a slave, where this port holds it or doesn't.
+fn held_also(has: bool, m: u8, before: Option<u8>) -> Option<u8>
+    ensures holder { result ≡ (if has then Some m else before) }
+{
+    if has { Some(m) } else { before }
 }
 
 /// Whether a slave is in a set.

@@ -57,32 +57,25 @@ fn look_at<P: PairRecorder>(cycles: &[Cycle<P>]) -> Look
         leaves: false,
     };
     for i in 0..cycles.len() {
-        look = see(cycles[i].phase(), i, look);
+        see(&mut look, cycles[i].phase(), i);
     }
     look
 }
 
-/// What a look tells with one more port, in this phase.
-fn see(phase: Phase, i: usize, look: Look) -> Look
-    requires few { look.waiting < 16 }
-    ensures seen { result ≡ seen (phase_of phase) i look }
+/// Adds what one more port tells, in this phase.
+fn see(look: &mut Look, phase: Phase, i: usize)
+    requires few { look.old.waiting < 16 }
+    ensures seen { look.new ≡ seen (phase_of phase) i look.old }
 {
     match phase {
-        Phase::Idle => look,
-        Phase::Wants(set) => Look {
-            waiting: look.waiting + 1,
-            last: i,
-            set: set.0,
-            ..look
-        },
-        Phase::Holds(set) => Look {
-            held: look.held | set.0,
-            ..look
-        },
-        Phase::Leaves => Look {
-            leaves: true,
-            ..look
-        },
+        Phase::Idle => {}
+        Phase::Wants(set) => {
+            look.waiting += 1;
+            look.last = i;
+            look.set = set.0;
+        }
+        Phase::Holds(set) => look.held |= set.0,
+        Phase::Leaves => look.leaves = true,
     }
 }
 
