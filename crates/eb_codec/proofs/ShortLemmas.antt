@@ -1,11 +1,10 @@
 -- Short records: which octets are one, and what they read as.
-use Rattle.std.proofs.Common.{◌≡◌, ℕ, zero, suc, ◌+◌, ◌≤◌, Bool, true, false, not, ◌||◌, eqb, bit_and, List, [], ◌∷◌, length, take, drop, get_or, Option, Some, None, refl, sym, ap, subst, ◌∙◌, arith, ◌⊎◌, inl, inr}
+use Rattle.std.proofs.Common.{◌≡◌, ℕ, zero, suc, ◌+◌, ◌≤◌, Bool, true, false, not, ◌||◌, eqb, bit_and, List, [], ◌∷◌, take, drop, get_or, Some, refl, sym, ap, subst, ◌∙◌, arith, ◌⊎◌, inl, inr}
 use Rattle.std.proofs.lemmas.Bool.{or_cases, eq-eqb, both_ways, not-true, eqb-true, agree_below, agree_below_at}
 use Rattle.std.proofs.lemmas.List.{length-take, drop-drop, get_or-take}
 use Rattle.eb_base.specs.declared.width.Width.TheVariants.{W32}
 use Rattle.eb_base.specs.declared.width.Widths.{Widths}
 use Rattle.eb_base.specs.Field.{number_at}
-use Rattle.eb_codec.specs.declared.item.Record.{Record}
 use Rattle.eb_codec.specs.declared.short.ShortRecord.{ShortRecord}
 use Rattle.eb_codec.specs.Rules.{has, breaks, broken}
 use Rattle.eb_codec.specs.Stream.{BreaksNone}
@@ -13,7 +12,7 @@ use Rattle.eb_codec.specs.Reading.{size, record_octets, record_of, record_head_o
 use Rattle.eb_codec.specs.Short.{BeginsShort, IsShortFlags, short_header, short_record}
 use Rattle.eb_codec.proofs.RuleLemmas.{from_none}
 use Rattle.eb_codec.proofs.ViewLemmas.{head_of}
-use Rattle.eb_codec.proofs.ItemLemmas.{broken_later, size_front}
+use Rattle.eb_codec.proofs.ItemLemmas.{broken_later}
 use Rattle.eb_codec.proofs.FieldLemmas.{number_at-take}
 use Rattle.eb_codec.proofs.ReadingLemmas.{number_at-drop, record_parts-are}
 

@@ -1,12 +1,12 @@
 -- What a short record asks, and what it is answered.
-use Rattle.std.proofs.Common.{◌≡◌, ℕ, ◌+◌, ◌*◌, ◌%◌, ◌^◌, Bool, false, if◌then◌else◌, List, [], ◌∷◌, ◌++◌, length, Option, Some, Result, Ok, Err, refl, sym, ap, subst, ◌∙◌, arith, slice_get, slice_index_or}
+use Rattle.std.proofs.Common.{◌≡◌, ℕ, ◌+◌, ◌*◌, ◌%◌, ◌^◌, Bool, false, if◌then◌else◌, List, [], ◌∷◌, ◌++◌, length, Some, Result, Ok, Err, refl, sym, ap, subst, ◌∙◌, arith, slice_get, slice_index_or}
 use Rattle.std.proofs.lemmas.List.{append-nil}
 use Rattle.std.specs.List.{flat_map}
 use Rattle.std.specs.Prelude.{OnErr}
 use Rattle.eb_base.specs.declared.width.Width.{Width}
 use Rattle.eb_base.specs.declared.width.Width.TheVariants.{W32}
 use Rattle.eb_base.specs.Field.{octets_of}
-use Rattle.eb_codec.specs.declared.flags.TheConstants.{WCA, RCA, CYC}
+use Rattle.eb_codec.specs.declared.flags.TheConstants.{WCA, RCA}
 use Rattle.eb_codec.specs.declared.item.Record.{Record}
 use Rattle.eb_codec.specs.declared.short.ShortRecord.{ShortRecord}
 use Rattle.eb_codec.specs.Rules.{has}

@@ -1,7 +1,7 @@
 use Rattle.std.proofs.Common.{◌≡◌, ℕ, ◌+◌, true, length, Some, Ok, Err, sym, ap, ◌∙◌, subst, arith}
 use Rattle.eb_codec.specs.Decoding.{DecoderState, Takes}
 use Rattle.eb_codec.specs.declared.event.Step.{Step}
-use Rattle.eb_codec.specs.Short.{TakesShort, short_step}
+use Rattle.eb_codec.specs.Short.{short_step}
 use Rattle.eb_session.specs.Inside.{state_in}
 use Rattle.eb_session.specs.declared.session.End.TheVariants as end
 use Rattle.eb_session.specs.Keeping.{SessionState, FeedsSession, octets_taken}
