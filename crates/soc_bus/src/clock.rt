@@ -1,5 +1,5 @@
 //! One clock of all ports.
-ghost use Rattle.std.specs.Prelude.{◌≡◌, ◌≢◌, ◌≤◌, ◌<◌, ◌==◌, ℕ, Some, None, true, if◌then◌else◌, length, slice_get, slice_index_or};
+ghost use Rattle.std.specs.Prelude.{◌≡◌, ◌≢◌, ◌≤◌, ◌<◌, ◌==◌, ℕ, Some, None, true, length, slice_get, slice_index_or};
 ghost use Rattle.std.specs.Int.{bit_at};
 ghost use Rattle.std.specs.Option.{is_some};
 ghost use Rattle.wb_signals.specs.Request.{Request, IsRequest};
