@@ -1,5 +1,5 @@
 //! One clock of all ports.
-ghost use Rattle.std.specs.Prelude.{◌≡◌, ◌≢◌, ◌≤◌, ◌<◌, ◌==◌, ℕ, Some, None, true, if◌then◌else◌, length, slice_get, slice_index_or};
+ghost use Rattle.std.specs.Prelude.{◌≡◌, ◌≢◌, ◌≤◌, ◌<◌, ◌==◌, ℕ, Some, None, true, length, slice_get, slice_index_or};
 ghost use Rattle.std.specs.Int.{bit_at};
 ghost use Rattle.std.specs.Option.{is_some};
 ghost use Rattle.wb_signals.specs.Request.{Request, IsRequest};
@@ -199,15 +199,10 @@ fn hold_some(holders: &mut [Option<u8>], set: u128, m: u8)
     ensures length { length holders.new ≡ length holders.old }
 {
     for i in 0..holders.len() {
-        holders[i] = held_also(has(set, i), m, holders[i]);
+        if has(set, i) {
+            holders[i] = Some(m);
+        }
     }
-}
-
-/// Who holds a slave, where this port holds it or doesn't.
-fn held_also(has: bool, m: u8, before: Option<u8>) -> Option<u8>
-    ensures holder { result ≡ (if has then Some m else before) }
-{
-    if has { Some(m) } else { before }
 }
 
 /// Whether a slave is in a set.
