@@ -203,6 +203,7 @@ impl Session {
     }
 
     // Takes octets up to the end of any item, and runs it.
+    #[inline(always)]
     fn feed_item<M: Master>(
         &mut self,
         alloc: Global,
