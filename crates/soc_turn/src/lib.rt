@@ -5,10 +5,10 @@
 //! last seen it. Who takes the value finds that the history has only grown, without an entry of its own, and that its
 //! stake and the charter are as it left them; who puts it back owes as much to the others.
 //!
-//! Masters are served in the order of their tickets. A master that waits yields to the other threads between two looks;
-//! the one that is next looks again at once, for some microseconds at most, before it does. One that had its share of
-//! turns beside others rests before it draws its next ticket. That a turn ever comes is not claimed: who has taken the
-//! value may keep it.
+//! Masters are served in the order of their tickets. A master that waits yields to the other threads between two
+//! looks; the one that is next looks again at once, for some microseconds at most, before it does. Of those that had
+//! to wait for turn after turn some rest before they draw the next ticket. That a turn ever comes is not claimed: who
+//! has taken the value may keep it.
 //!
 //! - `ledger`: what is told of such a value
 //! - `turn`: the turn, its root, passes and holds
